@@ -1,0 +1,5 @@
+pub mod Put
+pub mod Shape
+pub mod Trip
+pub mod Exact
+pub mod Damage

@@ -1,0 +1,6 @@
+pub mod Refusal
+pub mod Check
+pub mod Telegram
+pub mod Reader
+pub mod Writer
+pub mod Laws

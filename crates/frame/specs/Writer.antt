@@ -1,0 +1,26 @@
+-- What the writer answers, and what the buffer then holds. Assumes nothing.
+use mathlib.Core.Bool.{cond}
+use mathlib.Core.List.{List, _++_}
+use Prim.Native.Nat.{ℕ}
+use lib.Dec.{ltb}
+use lib.ListN.{length, drop}
+use Rattle.std.specs.declared.result.Result.{Result}
+use Rattle.std.specs.declared.result.Result.the-variants.{Ok, Err}
+use Rattle.frame.specs.Telegram.{telegram}
+use Rattle.frame.specs.declared.refusal.Refusal.{Refusal}
+use Rattle.frame.specs.declared.refusal.Refusal.the-variants.{BufferTooSmall, DataTooLong}
+
+-- the writer's answer for DA, SA, FC, data and a buffer of this many bytes: the telegram's length, or a refusal, by rising number
+abbrev pub writing : ℕ → ℕ → ℕ → List ℕ → ℕ → Result ℕ Refusal
+writing da sa fc xs room =
+    cond (ltb room 255) (Err BufferTooSmall)
+    (cond (ltb 246 (length xs)) (Err DataTooLong) (Ok (length (telegram da sa fc xs))))
+
+-- a buffer after an answer: the telegram, then the bytes that were there; a refusal leaves every byte
+abbrev pub put-by : Result ℕ Refusal → List ℕ → List ℕ → List ℕ
+put-by (Ok n) bytes buffer = bytes ++ drop n buffer
+put-by (Err e) bytes buffer = buffer
+
+-- what the buffer holds after the call
+abbrev pub written : ℕ → ℕ → ℕ → List ℕ → List ℕ → List ℕ
+written da sa fc xs buffer = put-by (writing da sa fc xs (length buffer)) (telegram da sa fc xs) buffer

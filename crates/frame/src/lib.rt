@@ -1,0 +1,13 @@
+mod check;
+mod reader;
+mod refusal;
+mod telegram;
+mod writer;
+pub use reader::read;
+pub use refusal::Refusal;
+pub use telegram::Address;
+pub use telegram::Frame;
+pub use telegram::Function;
+pub use telegram::FunctionCode;
+pub use telegram::Kind;
+pub use writer::write;

@@ -1,0 +1,87 @@
+// What a telegram says: who sends it to whom, what it asks for, and its data.
+ghost use mathlib.Core.Path.{_≡_};
+ghost use lib.ListN.{getD};
+ghost use Rattle.frame.specs.Telegram.{station-number, top-bit, request-bit, function-of, start-byte, frame-bytes};
+
+// The bytes that the two layouts begin with, and the one that both end with.
+pub(crate) const SHORT_START: u8 = 0x10;
+pub(crate) const LONG_START: u8 = 0x68;
+pub(crate) const END: u8 = 0x16;
+
+// A destination or source byte, DA or SA.
+#[derive(Clone, Copy, Debug, PartialEq, Eq)]
+pub struct Address(pub u8);
+
+impl Address {
+    // The station number: the low seven bits.
+    pub fn station(self) -> u8
+        ensures { λ r. ⌜ r ≡ station-number (self .0) ⌝ }
+    {
+        self.0 & 0x7f
+    }
+
+    // Whether the data begin with two service bytes: the top bit.
+    pub fn has_services(self) -> bool
+        ensures { λ r. ⌜ r ≡ top-bit (self .0) ⌝ }
+    {
+        self.0 & 0x80 != 0
+    }
+}
+
+// A function byte, FC.
+#[derive(Clone, Copy, Debug, PartialEq, Eq)]
+pub struct FunctionCode(pub u8);
+
+// What a request asks for.
+#[derive(Clone, Copy, Debug, PartialEq, Eq)]
+pub enum Function {
+    SendAndReply,
+    Status,
+    Other,
+}
+
+impl FunctionCode {
+    // Whether the telegram is a request: bit 6.
+    pub fn is_request(self) -> bool
+        ensures { λ r. ⌜ r ≡ request-bit (self .0) ⌝ }
+    {
+        self.0 & 0x40 != 0
+    }
+
+    // The function that the low four bits name in a request.
+    pub fn function(self) -> Function
+        ensures { λ r. ⌜ r ≡ function-of (self .0) ⌝ }
+    {
+        match self.0 & 0x0f {
+            12 | 13 => Function::SendAndReply,
+            9 => Function::Status,
+            _ => Function::Other,
+        }
+    }
+}
+
+// The two layouts, by their first byte.
+#[derive(Clone, Copy, Debug, PartialEq, Eq)]
+pub enum Kind {
+    Short,
+    Long,
+}
+
+// A telegram that was read: its fields by value, and its data where they lie in the bytes handed in, from `place` on.
+#[derive(Clone, Copy)]
+pub struct Frame<'a> {
+    pub destination: Address,
+    pub source: Address,
+    pub function: FunctionCode,
+    pub data: &'a [u8],
+    pub place: usize,
+}
+
+impl Frame<'_> {
+    // Which layout the telegram has: without data the short one, with data the long one.
+    pub fn kind(&self) -> Kind
+        ensures { λ r. ⌜ start-byte r ≡ getD (frame-bytes (now (self .entry))) 0 0 ⌝ }
+    {
+        if self.data.is_empty() { Kind::Short } else { Kind::Long }
+    }
+}
