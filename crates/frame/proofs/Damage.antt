@@ -100,7 +100,8 @@ module _ (bytes : List ℕ) (k v : ℕ) (within : k < length bytes) (byte : getD
         least = rw le (l .least);
         most = rw le (l .most);
         size = same-length ∙ l .size ∙ ap (λ n. n + 6) (sym le);
-        end = ap (λ n. getD changed (n + 5) 0) le ∙ elsewhere (getD bytes 1 0 + 5) (omega arith) ∙ l .end }
+        end = ap (λ n. getD changed (n + 5) 0) le ∙ elsewhere (getD bytes 1 0 + 5) (omega arith) ∙ l .end;
+      }
 
   long-unlike : Long bytes → Long changed → (k < 4) ⊎ (k ≡ getD bytes 1 0 + 5) → ⊥
   long-unlike l t at =
@@ -120,10 +121,10 @@ module _ (bytes : List ℕ) (k v : ℕ) (within : k < length bytes) (byte : getD
       ⊎-elim
       (λ (low : k + 3 < f .place). bare (inl low) ∙ ap Err (sym (cond-false _ _ _ (and-left _ _ (lt-leb (f .place) (k + 3) low)))))
       (λ (from : f .place ≤ k + 3).
-          ⊎-elim
-          (λ (past : length bytes < k + 2). bare (inr past) ∙ ap Err (sym (cond-false _ _ _ (and-right _ _ (lt-leb (k + 2) (length bytes) past)))))
-          (λ (upto : k + 2 ≤ length bytes). guarded from upto ∙ ap Err (sym (cond-true _ _ _ (and-from _ _ (le-leb (f .place) (k + 3) from) (le-leb (k + 2) (length bytes) upto)))))
-          (cases-lt (length bytes) (k + 2)))
+      ⊎-elim
+      (λ (past : length bytes < k + 2). bare (inr past) ∙ ap Err (sym (cond-false _ _ _ (and-right _ _ (lt-leb (k + 2) (length bytes) past)))))
+      (λ (upto : k + 2 ≤ length bytes). guarded from upto ∙ ap Err (sym (cond-true _ _ _ (and-from _ _ (le-leb (f .place) (k + 3) from) (le-leb (k + 2) (length bytes) upto)))))
+      (cases-lt (length bytes) (k + 2)))
       (cases-lt (k + 3) (f .place))
 
   damaged : (f : Fields) → Way bytes f → reading changed ≡ Err (cond (summed-or-check-byte bytes f k) WrongCheckByte NoLayout)
@@ -131,19 +132,19 @@ module _ (bytes : List ℕ) (k v : ℕ) (within : k < length bytes) (byte : getD
       let place : f .place ≡ 4 = ap (λ g. g .place) e in
       by-place f (reading changed)
       (λ from upto.
-          cond-true _ _ _ (short-test changed (short-kept s (omega arith) (omega (arith, s .size))))
-          ∙ refused 1 4 (omega arith) (omega (arith, s .size)) c (omega (arith, s .size)))
+      cond-true _ _ _ (short-test changed (short-kept s (omega arith) (omega (arith, s .size))))
+      ∙ refused 1 4 (omega arith) (omega (arith, s .size)) c (omega (arith, s .size)))
       (λ at. short-lost s (⊎-elim (λ (low : k + 3 < f .place). inl (omega arith)) (λ (past : length bytes < k + 2). inr (omega (arith, s .size))) at))
   damaged f (long l c e) =
       let place : f .place ≡ 7 = ap (λ g. g .place) e in
       by-place f (reading changed)
       (λ from upto.
-          let kept = long-kept l (omega arith) (omega (arith, l .size)) in
-          let le : getD changed 1 0 ≡ getD bytes 1 0 = elsewhere 1 (omega arith) in
-          cond-false _ _ _ (long-not-short changed kept)
-          ∙ cond-true _ _ _ (long-test changed kept)
-          ∙ ap (λ n. checked changed 4 (n + 4)) le
-          ∙ refused 4 (getD bytes 1 0 + 4) (omega arith) (omega (arith, l .size)) c (omega (arith, l .size)))
+      let kept = long-kept l (omega arith) (omega (arith, l .size)) in
+      let le : getD changed 1 0 ≡ getD bytes 1 0 = elsewhere 1 (omega arith) in
+      cond-false _ _ _ (long-not-short changed kept)
+      ∙ cond-true _ _ _ (long-test changed kept)
+      ∙ ap (λ n. checked changed 4 (n + 4)) le
+      ∙ refused 4 (getD bytes 1 0 + 4) (omega arith) (omega (arith, l .size)) c (omega (arith, l .size)))
       (λ at. long-lost l (⊎-elim (λ (low : k + 3 < f .place). inl (omega arith)) (λ (past : length bytes < k + 2). inr (omega (arith, l .size))) at))
 
 pub changed-refused : (bytes : List ℕ) (r : Result Fields Refusal) → ((k : ℕ) → getD bytes k 0 < 256) → r ≡ reading bytes → Changed-is-refused bytes r

@@ -3,3 +3,4 @@ pub mod Shape
 pub mod Trip
 pub mod Exact
 pub mod Damage
+pub mod Digits

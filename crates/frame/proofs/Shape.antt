@@ -44,7 +44,8 @@ long-facts bytes h = record {
   least = grind (arith, tells);
   most = grind (arith, tells);
   size = grind (arith, tells);
-  end = grind (arith, tells) }
+  end = grind (arith, tells);
+}
 
 pub long-test : (bytes : List ℕ) → Long bytes → is-long bytes ≡ true
 long-test bytes l = grind (arith, tells)
@@ -96,8 +97,8 @@ module _ (bytes : List ℕ) (l : Long bytes) where
       let m : end + 1 ≡ getD bytes 1 0 + 5 = omega arith in
       let last : drop ((end + 1) + 1) bytes ≡ [] = drop-all _ bytes (omega arith) in
       let two : drop end bytes ≡ getD bytes end 0 ∷ 0x16 ∷ [] =
-          drop-more bytes end 0 (omega arith)
-          ∙ ap (λ t. getD bytes end 0 ∷ t) (drop-more bytes (end + 1) 0 (omega arith) ∙ ap (λ t. getD bytes (end + 1) 0 ∷ t) last ∙ ap (λ k. getD bytes k 0 ∷ []) m ∙ ap (λ b. b ∷ []) (l .end)) in
+      drop-more bytes end 0 (omega arith)
+      ∙ ap (λ t. getD bytes end 0 ∷ t) (drop-more bytes (end + 1) 0 (omega arith) ∙ ap (λ t. getD bytes (end + 1) 0 ∷ t) last ∙ ap (λ k. getD bytes k 0 ∷ []) m ∙ ap (λ b. b ∷ []) (l .end)) in
       sym (take-append-drop (end - 7) (drop 7 bytes)) ∙ ap (λ t. between 7 end bytes ++ t) (drop-drop (end - 7) 7 bytes ∙ ap (λ k. drop k bytes) e ∙ two)
 
   pub long-bytes : check-byte (between 4 end bytes) ≡ getD bytes end 0 → bytes ≡ telegram (getD bytes 4 0) (getD bytes 5 0) (getD bytes 6 0) (between 7 end bytes)
@@ -106,7 +107,7 @@ module _ (bytes : List ℕ) (l : Long bytes) where
       let n : length (between 7 end bytes) + 3 ≡ getD bytes 1 0 = omega (arith, data-length) in
       let whole : bytes ≡ head (getD bytes 1 0) (getD bytes 4 0) (getD bytes 5 0) (getD bytes 6 0) ++ (between 7 end bytes ++ getD bytes end 0 ∷ 0x16 ∷ []) = let b = back in cc in
       let part : between 4 end bytes ≡ getD bytes 4 0 ∷ getD bytes 5 0 ∷ getD bytes 6 0 ∷ between 7 end bytes =
-          ap (between 4 end) whole ∙ take-at (getD bytes 4 0 ∷ getD bytes 5 0 ∷ getD bytes 6 0 ∷ between 7 end bytes) (getD bytes end 0 ∷ 0x16 ∷ []) (end - 4) (omega (arith, data-length)) in
+      ap (between 4 end) whole ∙ take-at (getD bytes 4 0 ∷ getD bytes 5 0 ∷ getD bytes 6 0 ∷ between 7 end bytes) (getD bytes end 0 ∷ 0x16 ∷ []) (end - 4) (omega (arith, data-length)) in
       whole
       ∙ ap (λ k. head k (getD bytes 4 0) (getD bytes 5 0) (getD bytes 6 0) ++ (between 7 end bytes ++ getD bytes end 0 ∷ 0x16 ∷ [])) (sym n)
       ∙ ap (λ s. head (length (between 7 end bytes) + 3) (getD bytes 4 0) (getD bytes 5 0) (getD bytes 6 0) ++ (between 7 end bytes ++ s ∷ 0x16 ∷ [])) (sym e ∙ ap check-byte part)

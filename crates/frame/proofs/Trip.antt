@@ -48,7 +48,8 @@ module _ (da sa fc x : ℕ) (xs : List ℕ) (few : length (x ∷ xs) ≤ 246) wh
     least = omega arith;
     most = omega arith;
     size = simp length-append (omega arith);
-    end = end-at }
+    end = end-at;
+  }
 
   summed : between 4 ((n + 3) + 4) all ≡ da ∷ sa ∷ fc ∷ x ∷ xs
   summed = take-at (da ∷ sa ∷ fc ∷ x ∷ xs) _ (((n + 3) + 4) - 4) (omega arith)

@@ -4,3 +4,4 @@ pub mod Telegram
 pub mod Reader
 pub mod Writer
 pub mod Laws
+pub mod Hex

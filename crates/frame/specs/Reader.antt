@@ -36,7 +36,8 @@ fields-from bytes start end = record {
   source = at bytes (start + 1);
   function = at bytes (start + 2);
   «data» = between (start + 3) end bytes;
-  place = start + 3 }
+  place = start + 3;
+}
 
 -- these fields, if the FCS at end is the check byte of the bytes from start on
 abbrev pub checked : List ℕ → ℕ → ℕ → Result Fields Refusal

@@ -15,6 +15,7 @@ use crate::telegram::SHORT_START;
 
 // LE counts DA, SA, FC and at least one data byte
 const LEAST_LE: usize = 4;
+
 const MOST_LE: usize = 249;
 // what a long telegram has besides the bytes that LE counts
 const AROUND: usize = 6;

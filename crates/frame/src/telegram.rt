@@ -5,7 +5,9 @@ ghost use Rattle.frame.specs.Telegram.{station-number, top-bit, request-bit, f
 
 // The bytes that the two layouts begin with, and the one that both end with.
 pub(crate) const SHORT_START: u8 = 0x10;
+
 pub(crate) const LONG_START: u8 = 0x68;
+
 pub(crate) const END: u8 = 0x16;
 
 // A destination or source byte, DA or SA.
@@ -82,6 +84,10 @@ impl Frame<'_> {
     pub fn kind(&self) -> Kind
         ensures { λ r. ⌜ start-byte r ≡ getD (frame-bytes (now (self .entry))) 0 0 ⌝ }
     {
-        if self.data.is_empty() { Kind::Short } else { Kind::Long }
+        if self.data.is_empty() {
+            Kind::Short
+        } else {
+            Kind::Long
+        }
     }
 }

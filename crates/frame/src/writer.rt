@@ -16,6 +16,7 @@ use crate::telegram::SHORT_START;
 
 // room for the longest telegram
 const ROOM: usize = 255;
+
 const MOST_DATA: usize = 246;
 
 // The short layout, for a telegram without data.

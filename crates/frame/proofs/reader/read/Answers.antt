@@ -11,7 +11,8 @@ returns-then-is-short c =
     record {
       value = v;
       accepted-is-written = exact _ _ v;
-      changed-is-refused = changed-refused _ _ (λ k. c .typed .bytes k .fits) v }
+      changed-is-refused = changed-refused _ _ (λ k. c .typed .bytes k .fits) v;
+    }
 
 pub returns-then-is-long : need.returns-then-is-long
 returns-then-is-long c =
@@ -19,4 +20,5 @@ returns-then-is-long c =
     record {
       value = v;
       accepted-is-written = exact _ _ v;
-      changed-is-refused = changed-refused _ _ (λ k. c .typed .bytes k .fits) v }
+      changed-is-refused = changed-refused _ _ (λ k. c .typed .bytes k .fits) v;
+    }

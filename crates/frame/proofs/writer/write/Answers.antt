@@ -13,4 +13,5 @@ returns c =
     record {
       value = ap Ok (c .put .ensures .count) ∙ sym (writing-ok _ _ _ _ _ (c .if-buffer-lt-ROOM .left) (c .if-data-gt-MOST-DATA .left));
       after = c .put .ensures .after ∙ ap (λ n. bytes ++ drop n (c .args .buffer .now)) (c .put .ensures .count) ∙ sym (written-ok _ _ _ _ _ (c .if-buffer-lt-ROOM .left) (c .if-data-gt-MOST-DATA .left));
-      written-is-read-back = read-back _ _ _ _ (c .args .buffer .now) _ _ (c .if-data-gt-MOST-DATA .left) (c .put .ensures .count) (c .put .ensures .after) }
+      written-is-read-back = read-back _ _ _ _ (c .args .buffer .now) _ _ (c .if-data-gt-MOST-DATA .left) (c .put .ensures .count) (c .put .ensures .after);
+    }
