@@ -16,24 +16,7 @@ pub enum HexError {
 }
 
 // The digits in the order of their values.
-const DIGITS: [u8; 16] = [
-    b'0',
-    b'1',
-    b'2',
-    b'3',
-    b'4',
-    b'5',
-    b'6',
-    b'7',
-    b'8',
-    b'9',
-    b'A',
-    b'B',
-    b'C',
-    b'D',
-    b'E',
-    b'F',
-];
+const DIGITS: &[u8; 16] = b"0123456789ABCDEF";
 
 fn digit(value: u8) -> u8
     requires { ⌜ value < 16 ⌝ }
