@@ -1,7 +1,7 @@
 // A telegram of the capture: its fields, and whether the writer makes the same bytes of them.
-ghost use mathlib.Core.Bool.{true};
 ghost use mathlib.Core.Path.{_≡_};
-ghost use Rattle.std.specs.Vec.{made};
+ghost use Rattle.frame.specs.Reader.{reading};
+ghost use Rattle.frames.specs.Decoded.{carried, Same};
 use frame::Frame;
 use frame::Function;
 use frame::Kind;
@@ -18,11 +18,18 @@ pub struct Telegram<'a> {
 
 // Reads a telegram and writes its fields back: what is accepted comes back the same.
 pub fn decode(bytes: &[u8]) -> Result<Telegram<'_>, Refusal>
-    ensures { λ r. ⌜ made r (λ t. t .same ≡ true) ⌝ }
+    ensures value { λ r. ⌜ carried r ≡ reading (now (bytes .entry)) ⌝ }
+    ensures same { λ r. ⌜ Same r ⌝ }
 {
     let frame = read(bytes)?;
     let mut buffer = [0u8; 255];
-    let n = write(frame.destination, frame.source, frame.function, frame.data, &mut buffer)?;
+    let n = write(
+        frame.destination,
+        frame.source,
+        frame.function,
+        frame.data,
+        &mut buffer,
+    )?;
     let same = &buffer[0..n] == bytes;
     Ok(Telegram { frame, same })
 }
@@ -36,7 +43,10 @@ fn layout(kind: Kind) -> &'static str {
 
 // What the top bits of the two addresses say: both, neither or one of them.
 fn services(frame: &Frame<'_>) -> &'static str {
-    match (frame.destination.has_services(), frame.source.has_services()) {
+    match (
+        frame.destination.has_services(),
+        frame.source.has_services(),
+    ) {
         (true, true) => "services",
         (false, false) => "no services",
         _ => "unlike",
@@ -64,7 +74,10 @@ pub impl fmt::Display for Telegram<'_> as TelegramDisplay {
         let code = frame.function.0;
         let asks = asks(frame);
         let count = frame.data.len();
-        write!(f, "{layout:<5}  {source:>3} to {destination:>3}  {services:<11}  FC {code:02X} {asks:<14}  {count:>3} data")?;
+        write!(
+            f,
+            "{layout:<5}  {source:>3} to {destination:>3}  {services:<11}  FC {code:02X} {asks:<14}  {count:>3} data"
+        )?;
         if count > 0 {
             let place = frame.place;
             write!(f, " at {place}: ")?;
@@ -72,6 +85,10 @@ pub impl fmt::Display for Telegram<'_> as TelegramDisplay {
                 write!(f, "{b:02X}")?;
             }
         }
-        write!(f, "  written back: {}", if self.same { "same" } else { "differs" })
+        write!(
+            f,
+            "  written back: {}",
+            if self.same { "same" } else { "differs" }
+        )
     }
 }

@@ -5,10 +5,12 @@ use Rattle.frames.proofs.Same.{same}
 use Rattle.frames.proofs.telegram.decode.Needs as need
 
 pub returns : need.returns
-returns c =
-    same (c .args .bytes .now) (replicate 255 0) _ (fields-of (c .in-Continue-frame .frame)) (c .in-Continue-n .n) _
-    (c .in-Continue-frame .ensures tt .accepted-is-written)
-    (lit≤ tt)
-    (c .in-Continue-n .ensures tt .value)
-    (c .in-Continue-n .ensures tt .after)
-    (c .eq-same .ensures)
+returns c = record {
+  value = c .in-Continue-frame .ensures tt .value;
+  same = same (c .args .bytes .now) (replicate 255 0) _ (fields-of (c .in-Continue-frame .frame)) (c .in-Continue-n .n) _
+      (c .in-Continue-frame .ensures tt .accepted-is-written)
+      (lit≤ tt)
+      (c .in-Continue-n .ensures tt .value)
+      (c .in-Continue-n .ensures tt .after)
+      (c .eq-same .ensures);
+}
