@@ -1,25 +1,22 @@
 -- An accepted telegram in which one byte was changed is refused. Assumes nothing.
-use mathlib.Core.Path.{_≡_, refl, sym, ap, _∙_, subst}
+use mathlib.Core.Path.{_≡_, refl, sym, ap, _∙_}
 use mathlib.Core.Bool.{Bool, true, false, cond}
-use mathlib.Core.List.{List, [], _∷_, _++_}
-use mathlib.Core.Logic.{_⊎_, _≢_, inl, inr, ⊎-elim}
-use Prim.Native.Nat.{ℕ, _+_, _-_, _≤_, _<_, _%_}
+use mathlib.Core.List.{List}
+use mathlib.Core.Logic.{_⊎_, inl, inr, ⊎-elim}
+use Prim.Native.Nat.{ℕ, _+_, _-_, _≤_, _<_}
 use native.Mathlib.Omega.{arith}
-use lib.Dec.{eqb}
 use lib.ListN.{length, take, drop, getD, set}
 use lib.Seq.{take-set-lt}
 use Rattle.std.specs.Holes.{between}
-use Rattle.std.specs.shelf.Lists.{sum}
-use Rattle.std.proofs.shelf.Lists.{length-set, length-take, length-drop, getD-set-same, getD-set-other, getD-take, getD-drop, take-set-le, drop-set-add}
+use Rattle.std.proofs.shelf.Lists.{length-set, getD-set-same, getD-set-other, take-set-le, drop-set-add}
 use Rattle.std.proofs.shelf.Edits.{length-between, getD-between}
 use Rattle.std.proofs.shelf.Sums.{sumBy-set}
-use Rattle.std.proofs.shelf.Tests.{cond-true, cond-false, ne-eqb, le-leb, lt-leb, and-from, and-left, and-right, cases-eq, cases-lt}
-use Rattle.std.proofs.shelf.Ways.{tells}
+use Rattle.std.proofs.shelf.Tests.{cond-true, cond-false, ne-eqb, le-leb, lt-leb, and-from, and-left, and-right, cases-lt}
 use Rattle.std.specs.declared.result.Result.{Result}
 use Rattle.std.specs.declared.result.Result.the-variants.{Ok, Err}
 use Rattle.frame.specs.Check.{check-byte}
 use Rattle.frame.specs.Telegram.{Fields}
-use Rattle.frame.specs.Reader.{reading, checked, fields-from, is-long, is-short}
+use Rattle.frame.specs.Reader.{reading, checked, is-long, is-short}
 use Rattle.frame.specs.Laws.{Changed-is-refused, summed-or-check-byte}
 use Rattle.frame.specs.declared.refusal.Refusal.{Refusal}
 use Rattle.frame.specs.declared.refusal.Refusal.the-variants.{NoLayout, WrongCheckByte}

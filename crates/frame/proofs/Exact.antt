@@ -1,21 +1,18 @@
 -- What the reader accepts is exactly what the writer makes of its fields. Assumes nothing.
-use mathlib.Core.Path.{_≡_, refl, sym, ap, _∙_, subst}
+use mathlib.Core.Path.{_≡_, refl, sym, ap, _∙_}
 use mathlib.Core.Bool.{Bool, true, false, cond}
-use mathlib.Core.List.{List, [], _∷_, _++_}
+use mathlib.Core.List.{List, _++_}
 use mathlib.Core.Logic.{_⊎_, inl, inr, ⊎-elim}
-use Prim.Native.Nat.{ℕ, _+_, _-_, _≤_, _<_}
+use Prim.Native.Nat.{ℕ, _+_, _≤_}
 use native.Mathlib.Omega.{arith}
-use lib.Dec.{eqb}
-use lib.ListN.{length, take, drop, getD}
+use lib.ListN.{length, drop, getD}
 use Rattle.std.specs.Holes.{between}
 use Rattle.std.proofs.shelf.Tests.{eqb-true}
-use Rattle.std.proofs.shelf.Ways.{tells}
 use Rattle.std.specs.declared.result.Result.{Result}
 use Rattle.std.specs.declared.result.Result.the-variants.{Ok, Err}
 use Rattle.frame.specs.Check.{check-byte}
-use Rattle.frame.specs.Telegram.{Fields, telegram, fields-bytes}
-use Rattle.frame.specs.Reader.{reading, checked, fields-from, is-long, is-short}
-use Rattle.frame.specs.Writer.{writing, written}
+use Rattle.frame.specs.Telegram.{Fields, fields-bytes}
+use Rattle.frame.specs.Reader.{reading, fields-from, is-long, is-short}
 use Rattle.frame.specs.Laws.{Accepted-is-written}
 use Rattle.frame.specs.declared.refusal.Refusal.{Refusal}
 use Rattle.frame.specs.declared.refusal.Refusal.the-variants.{NoLayout, WrongCheckByte}

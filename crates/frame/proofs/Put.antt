@@ -3,13 +3,12 @@ use mathlib.Core.Path.{_≡_, refl, sym, ap, _∙_}
 use mathlib.Core.List.{List, [], _∷_, _++_}
 use Prim.Native.Nat.{ℕ, _+_, _-_, _≤_, _<_}
 use native.Mathlib.Omega.{arith}
-use lib.ListN.{length, take, drop, length-append}
+use lib.ListN.{length, drop, length-append}
 use borrow.Rule.Slice.PartMut.{putMid, postOf}
 use Rattle.std.specs.Holes.{between}
 use Rattle.std.proofs.shelf.Lists.{take-at, drop-at, drop-drop, append-assoc}
 use Rattle.std.proofs.shelf.Tests.{cond-false, le-ltb}
-use Rattle.std.specs.declared.result.Result.{Result}
-use Rattle.std.specs.declared.result.Result.the-variants.{Ok, Err}
+use Rattle.std.specs.declared.result.Result.the-variants.{Ok}
 use Rattle.frame.specs.Check.{check-byte}
 use Rattle.frame.specs.Telegram.{telegram}
 use Rattle.frame.specs.Writer.{writing, written, put-by}
@@ -73,3 +72,8 @@ writing-ok da sa fc xs room h k = cond-false _ _ _ (le-ltb _ _ h) ∙ cond-false
 
 pub written-ok : (da sa fc : ℕ) (xs buffer : List ℕ) → 255 ≤ length buffer → length xs ≤ 246 → written da sa fc xs buffer ≡ telegram da sa fc xs ++ drop (length (telegram da sa fc xs)) buffer
 written-ok da sa fc xs buffer h k = ap (λ a. put-by a (telegram da sa fc xs) buffer) (writing-ok da sa fc xs (length buffer) h k)
+
+-- what the writer answers and leaves, from what was put down
+pub wrote : (da sa fc : ℕ) (xs buffer after : List ℕ) (n : ℕ) → 255 ≤ length buffer → length xs ≤ 246 → n ≡ length (telegram da sa fc xs) → after ≡ telegram da sa fc xs ++ drop n buffer → (Ok n ≡ writing da sa fc xs (length buffer)) × (after ≡ written da sa fc xs buffer)
+wrote da sa fc xs buffer after n room few count is =
+    (ap Ok count ∙ sym (writing-ok da sa fc xs (length buffer) room few), is ∙ ap (λ k. telegram da sa fc xs ++ drop k buffer) count ∙ sym (written-ok da sa fc xs buffer room few))

@@ -2,14 +2,12 @@
 use mathlib.Core.Path.{_≡_, refl, sym, ap, _∙_}
 use mathlib.Core.Bool.{true, false}
 use mathlib.Core.List.{List, [], _∷_, _++_}
-use Prim.Native.Nat.{ℕ, _+_, _-_, _≤_, _<_}
+use Prim.Native.Nat.{ℕ, _+_, _-_, _≤_}
 use native.Mathlib.Omega.{arith}
-use lib.Dec.{eqb}
-use lib.ListN.{length, take, drop, getD}
+use lib.ListN.{length, drop, getD}
 use Rattle.std.specs.Holes.{between}
 use Rattle.std.proofs.shelf.Lists.{take-append-drop, take-at, drop-drop, drop-more, drop-all}
 use Rattle.std.proofs.shelf.Edits.{length-between}
-use Rattle.std.proofs.shelf.Tests.{eqb-true, leb-true, and-parts, and-from, eq-eqb, le-leb}
 use Rattle.std.proofs.shelf.Ways.{tells}
 use Rattle.frame.specs.Check.{check-byte}
 use Rattle.frame.specs.Telegram.{telegram}

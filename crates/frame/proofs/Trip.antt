@@ -1,22 +1,17 @@
 -- A written telegram is read back as its fields. Assumes nothing.
 use mathlib.Core.Path.{_≡_, refl, sym, ap, _∙_}
-use mathlib.Core.Bool.{true, false}
 use mathlib.Core.List.{List, [], _∷_, _++_}
-use Prim.Native.Nat.{ℕ, _+_, _-_, _≤_, _<_}
+use Prim.Native.Nat.{ℕ, _+_, _-_, _≤_}
 use native.Mathlib.Omega.{arith}
 use lib.Dec.{eqb}
 use lib.ListN.{length, take, drop, getD, length-append}
 use Rattle.std.specs.Holes.{between}
 use Rattle.std.proofs.shelf.Lists.{take-at, getD-at, append-assoc}
 use Rattle.std.proofs.shelf.Tests.{cond-true, cond-false, eq-eqb}
-use Rattle.std.specs.declared.result.Result.{Result}
-use Rattle.std.specs.declared.result.Result.the-variants.{Ok, Err}
+use Rattle.std.specs.declared.result.Result.the-variants.{Ok}
 use Rattle.frame.specs.Check.{check-byte}
 use Rattle.frame.specs.Telegram.{telegram, fields}
-use Rattle.frame.specs.Reader.{reading, checked, is-long, is-short}
-use Rattle.frame.specs.Writer.{writing, written}
-use Rattle.frame.specs.Laws.{Written-is-read-back}
-use Rattle.frame.specs.declared.refusal.Refusal.{Refusal}
+use Rattle.frame.specs.Reader.{reading, is-long, is-short}
 use Rattle.frame.proofs.Shape.{Long, long-test, long-not-short}
 
 module _ (da sa fc x : ℕ) (xs : List ℕ) (few : length (x ∷ xs) ≤ 246) where

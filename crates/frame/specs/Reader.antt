@@ -21,13 +21,12 @@ at bytes k = getD bytes k 0
 abbrev pub is-short : List ℕ → Bool
 is-short bytes = eqb (length bytes) 6 && (eqb (at bytes 0) 0x10 && eqb (at bytes 5) 0x16)
 
--- the long layout: 68h, LE, LE, 68h, the LE bytes DA, SA, FC and data, FCS, 16h
+-- the long layout: 68h, LE, LE, 68h, the LE bytes DA, SA, FC and data, FCS, 16h; LE is 4 to 249
 abbrev pub is-long : List ℕ → Bool
 is-long bytes =
-    leb 10 (length bytes)
-    && (eqb (at bytes 0) 0x68 && (eqb (at bytes 2) (at bytes 1) && (eqb (at bytes 3) 0x68
+    eqb (at bytes 0) 0x68 && (eqb (at bytes 2) (at bytes 1) && (eqb (at bytes 3) 0x68
     && (leb 4 (at bytes 1) && (leb (at bytes 1) 249
-    && (eqb (length bytes) (at bytes 1 + 6) && eqb (at bytes (at bytes 1 + 5)) 0x16))))))
+    && (eqb (length bytes) (at bytes 1 + 6) && eqb (at bytes (at bytes 1 + 5)) 0x16)))))
 
 -- the fields that lie from start on, DA first, up to the FCS at end; the data are that part of the bytes
 abbrev pub fields-from : List ℕ → ℕ → ℕ → Fields

@@ -13,12 +13,13 @@ use crate::telegram::FunctionCode;
 use crate::telegram::LONG_START;
 use crate::telegram::SHORT_START;
 
-// LE counts DA, SA, FC and at least one data byte
+// What a long telegram has besides the bytes that LE counts.
+const AROUND: usize = 6;
+
+// LE counts DA, SA, FC and 1 to 246 data bytes.
 const LEAST_LE: usize = 4;
 
 const MOST_LE: usize = 249;
-// what a long telegram has besides the bytes that LE counts
-const AROUND: usize = 6;
 
 fn is_short(bytes: &[u8]) -> bool
     ensures { λ r. ⌜ r ≡ is-short (now (bytes .entry)) ⌝ }
@@ -29,6 +30,7 @@ fn is_short(bytes: &[u8]) -> bool
 fn is_long(bytes: &[u8]) -> bool
     ensures { λ r. ⌜ r ≡ is-long (now (bytes .entry)) ⌝ }
 {
+    // with the length test below, this refuses an LE under the least
     if bytes.len() < LEAST_LE + AROUND {
         return false;
     }
@@ -36,7 +38,6 @@ fn is_long(bytes: &[u8]) -> bool
     bytes[0] == LONG_START
         && bytes[2] == bytes[1]
         && bytes[3] == LONG_START
-        && LEAST_LE <= le
         && le <= MOST_LE
         && bytes.len() == le + AROUND
         && bytes[le + 5] == END

@@ -1,7 +1,7 @@
 // The writer: from the fields of a telegram to its bytes, in a lent buffer.
 ghost use mathlib.Core.List.{[], _++_};
 ghost use mathlib.Core.Path.{_≡_};
-ghost use Prim.Native.Nat.{ℕ, _+_, _<_, _≤_};
+ghost use Prim.Native.Nat.{_+_, _<_, _≤_};
 ghost use lib.ListN.{length, drop};
 ghost use Rattle.frame.specs.Laws.{Written-is-read-back};
 ghost use Rattle.frame.specs.Telegram.{telegram};

@@ -33,7 +33,21 @@ fn status_request() -> Result<(), Fail> {
 
 #[test]
 fn data_exchange() -> Result<(), Fail> {
-    let bytes = [0x68, 0x07, 0x07, 0x68, 0x03, 0x02, 0x5d, 0x04, 0x7e, 0x00, 0x00, 0xe4, 0x16];
+    let bytes = [
+        0x68,
+        0x07,
+        0x07,
+        0x68,
+        0x03,
+        0x02,
+        0x5d,
+        0x04,
+        0x7e,
+        0x00,
+        0x00,
+        0xe4,
+        0x16,
+    ];
     let frame = read(&bytes)?;
     check_eq(frame.kind(), Kind::Long)?;
     check_eq(frame.destination.station(), 3)?;
@@ -46,7 +60,20 @@ fn data_exchange() -> Result<(), Fail> {
 
 #[test]
 fn configuration_with_service_bytes() -> Result<(), Fail> {
-    let bytes = [0x68, 0x06, 0x06, 0x68, 0x83, 0x82, 0x7d, 0x3e, 0x3e, 0xf1, 0xef, 0x16];
+    let bytes = [
+        0x68,
+        0x06,
+        0x06,
+        0x68,
+        0x83,
+        0x82,
+        0x7d,
+        0x3e,
+        0x3e,
+        0xf1,
+        0xef,
+        0x16,
+    ];
     let frame = read(&bytes)?;
     check_eq(frame.destination.station(), 3)?;
     check_eq(frame.source.station(), 2)?;
@@ -73,13 +100,132 @@ fn short_damaged() -> Result<(), Fail> {
 
 #[test]
 fn long_damaged() -> Result<(), Fail> {
-    check_eq(refused(&[0x68, 0x05, 0x05, 0x68, 0x03, 0x02, 0x5d, 0x04, 0x7e, 0xe4, 0x16]), 0)?;
-    check_eq(refused(&[0x68, 0x05, 0x05, 0x68, 0x03, 0x02, 0x5d, 0x04, 0x7f, 0xe4, 0x16]), 5).note("data")?;
-    check_eq(refused(&[0x68, 0x05, 0x05, 0x68, 0x03, 0x02, 0x5d, 0x04, 0x7e, 0xe5, 0x16]), 5).note("FCS")?;
-    check_eq(refused(&[0x68, 0x05, 0x06, 0x68, 0x03, 0x02, 0x5d, 0x04, 0x7e, 0xe4, 0x16]), 4).note("LE unlike")?;
-    check_eq(refused(&[0x68, 0x06, 0x06, 0x68, 0x03, 0x02, 0x5d, 0x04, 0x7e, 0xe4, 0x16]), 4).note("LE too large")?;
-    check_eq(refused(&[0x68, 0x05, 0x05, 0x10, 0x03, 0x02, 0x5d, 0x04, 0x7e, 0xe4, 0x16]), 4).note("second start")?;
-    check_eq(refused(&[0x68, 0x05, 0x05, 0x68, 0x03, 0x02, 0x5d, 0x04, 0x7e, 0xe4, 0x10]), 4).note("end")
+    check_eq(
+        refused(
+            &[
+                0x68,
+                0x05,
+                0x05,
+                0x68,
+                0x03,
+                0x02,
+                0x5d,
+                0x04,
+                0x7e,
+                0xe4,
+                0x16,
+            ],
+        ),
+        0,
+    )?;
+    check_eq(
+        refused(
+            &[
+                0x68,
+                0x05,
+                0x05,
+                0x68,
+                0x03,
+                0x02,
+                0x5d,
+                0x04,
+                0x7f,
+                0xe4,
+                0x16,
+            ],
+        ),
+        5,
+    ).note("data")?;
+    check_eq(
+        refused(
+            &[
+                0x68,
+                0x05,
+                0x05,
+                0x68,
+                0x03,
+                0x02,
+                0x5d,
+                0x04,
+                0x7e,
+                0xe5,
+                0x16,
+            ],
+        ),
+        5,
+    ).note("FCS")?;
+    check_eq(
+        refused(
+            &[
+                0x68,
+                0x05,
+                0x06,
+                0x68,
+                0x03,
+                0x02,
+                0x5d,
+                0x04,
+                0x7e,
+                0xe4,
+                0x16,
+            ],
+        ),
+        4,
+    ).note("LE unlike")?;
+    check_eq(
+        refused(
+            &[
+                0x68,
+                0x06,
+                0x06,
+                0x68,
+                0x03,
+                0x02,
+                0x5d,
+                0x04,
+                0x7e,
+                0xe4,
+                0x16,
+            ],
+        ),
+        4,
+    ).note("LE too large")?;
+    check_eq(
+        refused(
+            &[
+                0x68,
+                0x05,
+                0x05,
+                0x10,
+                0x03,
+                0x02,
+                0x5d,
+                0x04,
+                0x7e,
+                0xe4,
+                0x16,
+            ],
+        ),
+        4,
+    ).note("second start")?;
+    check_eq(
+        refused(
+            &[
+                0x68,
+                0x05,
+                0x05,
+                0x68,
+                0x03,
+                0x02,
+                0x5d,
+                0x04,
+                0x7e,
+                0xe4,
+                0x10,
+            ],
+        ),
+        4,
+    ).note("end")
 }
 
 #[test]
@@ -89,14 +235,41 @@ fn too_many_or_too_few_bytes() -> Result<(), Fail> {
     check_eq(refused(&[0xe5]), 4).note("the one-byte acknowledgement is no telegram")?;
     check_eq(refused(&[0x10, 0x03, 0x02, 0x49, 0x4e]), 4)?;
     check_eq(refused(&[0x10, 0x03, 0x02, 0x49, 0x4e, 0x16, 0x16]), 4)?;
-    check_eq(refused(&[0x68, 0x05, 0x05, 0x68, 0x03, 0x02, 0x5d, 0x04, 0x7e, 0xe4]), 4)?;
-    check_eq(refused(&[0x68, 0x05, 0x05, 0x68, 0x03, 0x02, 0x5d, 0x04, 0x7e, 0xe4, 0x16, 0x16]), 4)
+    check_eq(
+        refused(&[0x68, 0x05, 0x05, 0x68, 0x03, 0x02, 0x5d, 0x04, 0x7e, 0xe4]),
+        4,
+    )?;
+    check_eq(
+        refused(
+            &[
+                0x68,
+                0x05,
+                0x05,
+                0x68,
+                0x03,
+                0x02,
+                0x5d,
+                0x04,
+                0x7e,
+                0xe4,
+                0x16,
+                0x16,
+            ],
+        ),
+        4,
+    )
 }
 
 #[test]
 fn le_at_its_limits() -> Result<(), Fail> {
-    check_eq(refused(&[0x68, 0x03, 0x03, 0x68, 0x03, 0x02, 0x5d, 0x62, 0x16]), 4).note("LE 3")?;
-    check_eq(refused(&[0x68, 0x04, 0x04, 0x68, 0x03, 0x02, 0x5d, 0x00, 0x62, 0x16]), 0).note("LE 4")?;
+    check_eq(
+        refused(&[0x68, 0x03, 0x03, 0x68, 0x03, 0x02, 0x5d, 0x62, 0x16]),
+        4,
+    ).note("LE 3")?;
+    check_eq(
+        refused(&[0x68, 0x04, 0x04, 0x68, 0x03, 0x02, 0x5d, 0x00, 0x62, 0x16]),
+        0,
+    ).note("LE 4")?;
     let mut longest = [0u8; 255];
     longest[0] = 0x68;
     longest[1] = 249;

@@ -1,7 +1,7 @@
 -- What the reader accepts, the writer makes again. Assumes nothing.
-use mathlib.Core.Path.{_≡_, sym, ap, _∙_}
+use mathlib.Core.Path.{_≡_, ap, _∙_}
 use mathlib.Core.Bool.{Bool, true}
-use mathlib.Core.List.{List, _++_}
+use mathlib.Core.List.{List}
 use Prim.Native.Nat.{ℕ, _-_, _≤_}
 use native.Mathlib.Omega.{arith}
 use lib.ListN.{length, take, drop}
@@ -9,7 +9,7 @@ use Rattle.std.specs.Lexical.{Matches}
 use Rattle.std.specs.Orderings.{Decides}
 use Rattle.std.proofs.shelf.Equals.{matches-decides}
 use Rattle.std.proofs.shelf.Lists.{take-at}
-use Rattle.std.specs.declared.result.Result.the-variants.{Ok, Err}
+use Rattle.std.specs.declared.result.Result.the-variants.{Ok}
 use Rattle.frame.specs.Telegram.{Fields}
 use Rattle.frame.specs.Writer.{writing, written}
 use Rattle.frame.specs.Laws.{Accepted-is-written}
