@@ -11,7 +11,7 @@ use Rattle.std.proofs.shelf.Tests.{cond-false, le-ltb}
 use Rattle.std.specs.declared.result.Result.the-variants.{Ok}
 use Rattle.frame.specs.Check.{check-byte}
 use Rattle.frame.specs.Telegram.{telegram}
-use Rattle.frame.specs.Writer.{writing, written, put-by}
+use Rattle.frame.specs.Writer.{Put-down, writing, written, put-by}
 
 -- the bytes before the data
 abbrev pub head : ℕ → ℕ → ℕ → ℕ → List ℕ
@@ -74,6 +74,6 @@ pub written-ok : (da sa fc : ℕ) (xs buffer : List ℕ) → 255 ≤ length buff
 written-ok da sa fc xs buffer h k = ap (λ a. put-by a (telegram da sa fc xs) buffer) (writing-ok da sa fc xs (length buffer) h k)
 
 -- what the writer answers and leaves, from what was put down
-pub wrote : (da sa fc : ℕ) (xs buffer after : List ℕ) (n : ℕ) → 255 ≤ length buffer → length xs ≤ 246 → n ≡ length (telegram da sa fc xs) → after ≡ telegram da sa fc xs ++ drop n buffer → (Ok n ≡ writing da sa fc xs (length buffer)) × (after ≡ written da sa fc xs buffer)
-wrote da sa fc xs buffer after n room few count is =
-    (ap Ok count ∙ sym (writing-ok da sa fc xs (length buffer) room few), is ∙ ap (λ k. telegram da sa fc xs ++ drop k buffer) count ∙ sym (written-ok da sa fc xs buffer room few))
+pub wrote : (da sa fc : ℕ) (xs buffer after : List ℕ) (n : ℕ) → 255 ≤ length buffer → length xs ≤ 246 → Put-down da sa fc xs n buffer after → (Ok n ≡ writing da sa fc xs (length buffer)) × (after ≡ written da sa fc xs buffer)
+wrote da sa fc xs buffer after n room few p =
+    (ap Ok (p .count) ∙ sym (writing-ok da sa fc xs (length buffer) room few), p .bytes ∙ ap (λ k. telegram da sa fc xs ++ drop k buffer) (p .count) ∙ sym (written-ok da sa fc xs buffer room few))

@@ -11,6 +11,7 @@ use Rattle.std.proofs.shelf.Tests.{cond-true, cond-false, eq-eqb}
 use Rattle.std.specs.declared.result.Result.the-variants.{Ok}
 use Rattle.frame.specs.Check.{check-byte}
 use Rattle.frame.specs.Telegram.{telegram, fields}
+use Rattle.frame.specs.Writer.{Put-down}
 use Rattle.frame.specs.Reader.{reading, is-long, is-short}
 use Rattle.frame.proofs.Shape.{Long, long-test, long-not-short}
 
@@ -64,6 +65,6 @@ pub trip : (da sa fc : ℕ) (xs : List ℕ) → length xs ≤ 246 → reading (t
 trip da sa fc [] h = cond-true (eqb (check-byte (da ∷ sa ∷ fc ∷ [])) (check-byte (da ∷ sa ∷ fc ∷ []))) _ _ (eq-eqb (check-byte (da ∷ sa ∷ fc ∷ [])) _ refl)
 trip da sa fc (x ∷ xs) h = long-trip da sa fc x xs h
 
--- what stands in the buffer then
-pub read-back : (da sa fc : ℕ) (xs buffer after : List ℕ) (n : ℕ) → length xs ≤ 246 → n ≡ length (telegram da sa fc xs) → after ≡ telegram da sa fc xs ++ drop n buffer → reading (take n after) ≡ Ok (fields da sa fc xs)
-read-back da sa fc xs buffer after n few count is = ap (λ l. reading (take n l)) is ∙ ap reading (take-at (telegram da sa fc xs) (drop n buffer) n (sym count)) ∙ trip da sa fc xs few
+-- what was put down is read back
+pub read-back : (da sa fc : ℕ) (xs buffer after : List ℕ) (n : ℕ) → length xs ≤ 246 → Put-down da sa fc xs n buffer after → reading (take n after) ≡ Ok (fields da sa fc xs)
+read-back da sa fc xs buffer after n few p = ap (λ l. reading (take n l)) (p .bytes) ∙ ap reading (take-at (telegram da sa fc xs) (drop n buffer) n (sym (p .count))) ∙ trip da sa fc xs few

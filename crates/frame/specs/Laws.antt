@@ -9,7 +9,7 @@ use Rattle.std.specs.declared.result.Result.{Result}
 use Rattle.std.specs.declared.result.Result.the-variants.{Ok, Err}
 use Rattle.frame.specs.Telegram.{Fields, fields}
 use Rattle.frame.specs.Reader.{reading}
-use Rattle.frame.specs.Writer.{writing, written}
+use Rattle.frame.specs.Writer.{room-needed, writing, written}
 use Rattle.frame.specs.declared.refusal.Refusal.{Refusal}
 use Rattle.frame.specs.declared.refusal.Refusal.the-variants.{NoLayout, WrongCheckByte}
 
@@ -21,7 +21,7 @@ Written-is-read-back da sa fc xs (Err e) buffer = Unit {0}
 -- whatever the reader accepts is exactly what the writer makes of its fields, in any buffer with room for it
 abbrev pub Accepted-is-written : List ℕ → Result Fields Refusal → Type 0
 Accepted-is-written bytes (Ok f) =
-    (buffer : List ℕ) → 255 ≤ length buffer
+    (buffer : List ℕ) → room-needed ≤ length buffer
     → (writing (f .destination) (f .source) (f .function) (f .«data») (length buffer) ≡ Ok (length bytes))
     × (written (f .destination) (f .source) (f .function) (f .«data») buffer ≡ bytes ++ drop (length bytes) buffer)
 Accepted-is-written bytes (Err e) = Unit {0}

@@ -8,10 +8,11 @@ use Rattle.std.specs.Holes.{between}
 use Rattle.std.specs.declared.result.Result.{Result}
 use Rattle.std.specs.declared.result.Result.the-variants.{Ok, Err}
 use Rattle.frame.specs.Check.{check-byte}
-use Rattle.frame.specs.Telegram.{Fields, fields-of}
+use Rattle.frame.specs.Telegram.{Fields, fields-of, start-byte, end-byte}
 use Rattle.frame.specs.declared.refusal.Refusal.{Refusal}
 use Rattle.frame.specs.declared.refusal.Refusal.the-variants.{NoLayout, WrongCheckByte}
 use Rattle.frame.specs.declared.telegram.Frame.{Frame}
+use Rattle.frame.specs.declared.telegram.Kind.the-variants.{Short, Long}
 
 -- byte k
 abbrev at : List ℕ → ℕ → ℕ
@@ -19,14 +20,14 @@ at bytes k = getD bytes k 0
 
 -- the short layout: 10h, DA, SA, FC, FCS, 16h
 abbrev pub is-short : List ℕ → Bool
-is-short bytes = eqb (length bytes) 6 && (eqb (at bytes 0) 0x10 && eqb (at bytes 5) 0x16)
+is-short bytes = eqb (length bytes) 6 && (eqb (at bytes 0) (start-byte Short) && eqb (at bytes 5) end-byte)
 
 -- the long layout: 68h, LE, LE, 68h, the LE bytes DA, SA, FC and data, FCS, 16h; LE is 4 to 249
 abbrev pub is-long : List ℕ → Bool
 is-long bytes =
-    eqb (at bytes 0) 0x68 && (eqb (at bytes 2) (at bytes 1) && (eqb (at bytes 3) 0x68
+    eqb (at bytes 0) (start-byte Long) && (eqb (at bytes 2) (at bytes 1) && (eqb (at bytes 3) (start-byte Long)
     && (leb 4 (at bytes 1) && (leb (at bytes 1) 249
-    && (eqb (length bytes) (at bytes 1 + 6) && eqb (at bytes (at bytes 1 + 5)) 0x16)))))
+    && (eqb (length bytes) (at bytes 1 + 6) && eqb (at bytes (at bytes 1 + 5)) end-byte)))))
 
 -- the fields that lie from start on, DA first, up to the FCS at end; the data are that part of the bytes
 abbrev pub fields-from : List ℕ → ℕ → ℕ → Fields

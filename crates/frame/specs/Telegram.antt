@@ -8,7 +8,7 @@ use lib.ListN.{length}
 use Rattle.frame.specs.Check.{check-byte}
 use Rattle.frame.specs.declared.telegram.Frame.{Frame}
 use Rattle.frame.specs.declared.telegram.Function.{Function}
-use Rattle.frame.specs.declared.telegram.Function.the-variants.{SendAndReply, Status, Other}
+use Rattle.frame.specs.declared.telegram.Function.the-variants.{SendAndReply, Status, OtherRequest, Reply}
 use Rattle.frame.specs.declared.telegram.Kind.{Kind}
 use Rattle.frame.specs.declared.telegram.Kind.the-variants.{Short, Long}
 
@@ -28,16 +28,22 @@ top-bit address = is-set 0x80 address
 abbrev pub request-bit : ℕ → Bool
 request-bit function = is-set 0x40 function
 
--- the low four bits of FC: 12 and 13 are send and reply, 9 is status
+-- the low four bits of a request's FC: 12 and 13 are send and reply, 9 is status
+abbrev pub request-of : ℕ → Function
+request-of code = cond (eqb code 12 || eqb code 13) SendAndReply (cond (eqb code 9) Status OtherRequest)
+
+-- what FC asks for
 abbrev pub function-of : ℕ → Function
-function-of function =
-    cond (eqb (bitAnd function 0x0F) 12 || eqb (bitAnd function 0x0F) 13) SendAndReply
-    (cond (eqb (bitAnd function 0x0F) 9) Status Other)
+function-of function = cond (request-bit function) (request-of (bitAnd function 0x0F)) Reply
 
 -- the first byte of each layout
 abbrev pub start-byte : Kind → ℕ
 start-byte Short = 0x10
 start-byte Long = 0x68
+
+-- the last byte of both
+abbrev pub end-byte : ℕ
+end-byte = 0x16
 
 -- LE of a long telegram: it counts DA, SA, FC and the data
 abbrev pub length-byte : List ℕ → ℕ
@@ -45,9 +51,10 @@ length-byte xs = length xs + 3
 
 -- the bytes of a telegram: the short layout without data, the long one with data
 abbrev pub telegram : ℕ → ℕ → ℕ → List ℕ → List ℕ
-telegram da sa fc [] = 0x10 ∷ da ∷ sa ∷ fc ∷ check-byte (da ∷ sa ∷ fc ∷ []) ∷ 0x16 ∷ []
+telegram da sa fc [] = start-byte Short ∷ da ∷ sa ∷ fc ∷ check-byte (da ∷ sa ∷ fc ∷ []) ∷ end-byte ∷ []
 telegram da sa fc (x ∷ xs) =
-    0x68 ∷ length-byte (x ∷ xs) ∷ length-byte (x ∷ xs) ∷ 0x68 ∷ da ∷ sa ∷ fc ∷ ((x ∷ xs) ++ check-byte (da ∷ sa ∷ fc ∷ x ∷ xs) ∷ 0x16 ∷ [])
+    start-byte Long ∷ length-byte (x ∷ xs) ∷ length-byte (x ∷ xs) ∷ start-byte Long
+    ∷ da ∷ sa ∷ fc ∷ ((x ∷ xs) ++ check-byte (da ∷ sa ∷ fc ∷ x ∷ xs) ∷ end-byte ∷ [])
 
 -- the fields of a telegram: DA, SA, FC, the data, and the place in its bytes where the data begin
 pub record Fields : Type 0 where

@@ -1,7 +1,7 @@
 // What a telegram says: who sends it to whom, what it asks for, and its data.
 ghost use mathlib.Core.Path.{_≡_};
 ghost use lib.ListN.{getD};
-ghost use Rattle.frame.specs.Telegram.{station-number, top-bit, request-bit, function-of, start-byte, frame-bytes};
+ghost use Rattle.frame.specs.Telegram.{station-number, top-bit, function-of, start-byte, frame-bytes};
 
 // The bytes that the two layouts begin with, and the one that both end with.
 pub(crate) const SHORT_START: u8 = 0x10;
@@ -34,30 +34,27 @@ impl Address {
 #[derive(Clone, Copy, Debug, PartialEq, Eq)]
 pub struct FunctionCode(pub u8);
 
-// What a request asks for.
+// What a telegram asks for, or that it asks for nothing.
 #[derive(Clone, Copy, Debug, PartialEq, Eq)]
 pub enum Function {
     SendAndReply,
     Status,
-    Other,
+    OtherRequest,
+    Reply,
 }
 
 impl FunctionCode {
-    // Whether the telegram is a request: bit 6.
-    pub fn is_request(self) -> bool
-        ensures { λ r. ⌜ r ≡ request-bit (self .0) ⌝ }
-    {
-        self.0 & 0x40 != 0
-    }
-
-    // The function that the low four bits name in a request.
+    // Bit 6 marks a request, and the low four bits then name its function.
     pub fn function(self) -> Function
         ensures { λ r. ⌜ r ≡ function-of (self .0) ⌝ }
     {
+        if self.0 & 0x40 == 0 {
+            return Function::Reply;
+        }
         match self.0 & 0x0f {
             12 | 13 => Function::SendAndReply,
             9 => Function::Status,
-            _ => Function::Other,
+            _ => Function::OtherRequest,
         }
     }
 }
@@ -70,7 +67,7 @@ pub enum Kind {
 }
 
 // A telegram that was read: its fields by value, and its data where they lie in the bytes handed in, from `place` on.
-#[derive(Clone, Copy)]
+#[derive(Clone, Copy, Debug, PartialEq, Eq)]
 pub struct Frame<'a> {
     pub destination: Address,
     pub source: Address,

@@ -1,11 +1,10 @@
 // The writer: from the fields of a telegram to its bytes, in a lent buffer.
-ghost use mathlib.Core.List.{[], _++_};
+ghost use mathlib.Core.List.{[]};
 ghost use mathlib.Core.Path.{_≡_};
-ghost use Prim.Native.Nat.{_+_, _<_, _≤_};
-ghost use lib.ListN.{length, drop};
+ghost use Prim.Native.Nat.{_<_, _≤_};
+ghost use lib.ListN.{length};
 ghost use Rattle.frame.specs.Laws.{Written-is-read-back};
-ghost use Rattle.frame.specs.Telegram.{telegram};
-ghost use Rattle.frame.specs.Writer.{writing, written};
+ghost use Rattle.frame.specs.Writer.{room-needed, most-data, Put-down, writing, written};
 use crate::check::check_byte;
 use crate::refusal::Refusal;
 use crate::telegram::Address;
@@ -14,31 +13,52 @@ use crate::telegram::FunctionCode;
 use crate::telegram::LONG_START;
 use crate::telegram::SHORT_START;
 
-// room for the longest telegram
-const ROOM: usize = 255;
+// The longest telegram, and so the room that the writer asks for.
+pub const ROOM: usize = 255;
 
-const MOST_DATA: usize = 246;
+// The most data bytes of a telegram.
+pub const MOST_DATA: usize = 246;
 
 // The short layout, for a telegram without data.
-fn put_short(da: u8, sa: u8, fc: u8, buffer: &mut [u8]) -> usize
-    requires { ⌜ 255 ≤ length (now buffer) ⌝ }
-    ensures count { λ r. ⌜ r ≡ length (telegram da sa fc []) ⌝ }
-    ensures after { λ r. ⌜ now (buffer .exit) ≡ telegram da sa fc [] ++ drop r (now (buffer .entry)) ⌝ }
+fn put_short(
+    destination: Address,
+    source: Address,
+    function: FunctionCode,
+    buffer: &mut [u8],
+) -> usize
+    requires { ⌜ room-needed ≤ length (now buffer) ⌝ }
+    ensures { λ r. ⌜ Put-down (destination .0) (source .0) (function .0) [] r (now (buffer .entry)) (now (buffer .exit)) ⌝ }
 {
+    let (da, sa, fc) = (destination.0, source.0, function.0);
     let fcs = check_byte(&[da, sa, fc]);
     buffer[0..6].copy_from_slice(&[SHORT_START, da, sa, fc, fcs, END]);
     6
 }
 
 // The long layout, for a telegram with data.
-fn put_long(da: u8, sa: u8, fc: u8, data: &[u8], buffer: &mut [u8]) -> usize
-    requires { ⌜ 255 ≤ length (now buffer) ⌝ ∗ ⌜ 0 < length (now «data») ⌝ ∗ ⌜ length (now «data») ≤ 246 ⌝ }
-    ensures count { λ r. ⌜ r ≡ length (telegram da sa fc (now («data» .entry))) ⌝ }
-    ensures after { λ r. ⌜ now (buffer .exit) ≡ telegram da sa fc (now («data» .entry)) ++ drop r (now (buffer .entry)) ⌝ }
+fn put_long(
+    destination: Address,
+    source: Address,
+    function: FunctionCode,
+    data: &[u8],
+    buffer: &mut [u8],
+) -> usize
+    requires { ⌜ room-needed ≤ length (now buffer) ⌝ ∗ ⌜ 0 < length (now «data») ⌝ ∗ ⌜ length (now «data») ≤ most-data ⌝ }
+    ensures { λ r. ⌜ Put-down (destination .0) (source .0) (function .0) (now («data» .entry)) r (now (buffer .entry)) (now (buffer .exit)) ⌝ }
 {
     let n = data.len();
     let le = (n + 3) as u8;
-    buffer[0..7].copy_from_slice(&[LONG_START, le, le, LONG_START, da, sa, fc]);
+    buffer[0..7].copy_from_slice(
+        &[
+            LONG_START,
+            le,
+            le,
+            LONG_START,
+            destination.0,
+            source.0,
+            function.0,
+        ],
+    );
     buffer[7..n + 7].copy_from_slice(data);
     let fcs = check_byte(&buffer[4..n + 7]);
     buffer[n + 7..n + 9].copy_from_slice(&[fcs, END]);
@@ -46,15 +66,20 @@ fn put_long(da: u8, sa: u8, fc: u8, data: &[u8], buffer: &mut [u8]) -> usize
 }
 
 // The layout that the data call for.
-fn put(da: u8, sa: u8, fc: u8, data: &[u8], buffer: &mut [u8]) -> usize
-    requires { ⌜ 255 ≤ length (now buffer) ⌝ ∗ ⌜ length (now «data») ≤ 246 ⌝ }
-    ensures count { λ r. ⌜ r ≡ length (telegram da sa fc (now («data» .entry))) ⌝ }
-    ensures after { λ r. ⌜ now (buffer .exit) ≡ telegram da sa fc (now («data» .entry)) ++ drop r (now (buffer .entry)) ⌝ }
+fn put(
+    destination: Address,
+    source: Address,
+    function: FunctionCode,
+    data: &[u8],
+    buffer: &mut [u8],
+) -> usize
+    requires { ⌜ room-needed ≤ length (now buffer) ⌝ ∗ ⌜ length (now «data») ≤ most-data ⌝ }
+    ensures { λ r. ⌜ Put-down (destination .0) (source .0) (function .0) (now («data» .entry)) r (now (buffer .entry)) (now (buffer .exit)) ⌝ }
 {
     if data.is_empty() {
-        put_short(da, sa, fc, buffer)
+        put_short(destination, source, function, buffer)
     } else {
-        put_long(da, sa, fc, data, buffer)
+        put_long(destination, source, function, data, buffer)
     }
 }
 
@@ -77,5 +102,5 @@ pub fn write(
     if data.len() > MOST_DATA {
         return Err(Refusal::DataTooLong);
     }
-    Ok(put(destination.0, source.0, function.0, data, buffer))
+    Ok(put(destination, source, function, data, buffer))
 }

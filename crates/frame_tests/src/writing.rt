@@ -15,7 +15,7 @@ fn short_telegram() -> Result<(), Fail> {
         write(Address(3), Address(2), FunctionCode(0x49), &[], &mut buffer),
         Ok(6),
     )?;
-    check(&buffer[0..6] == &[0x10, 0x03, 0x02, 0x49, 0x4e, 0x16])?;
+    check(&buffer[0..6] == b"\x10\x03\x02\x49\x4e\x16")?;
     check(buffer[6] == 0xaa && buffer[254] == 0xaa).note("what lies behind stays")
 }
 
@@ -32,24 +32,7 @@ fn long_telegram() -> Result<(), Fail> {
         ),
         Ok(13),
     )?;
-    check(
-        &buffer[0..13]
-            == &[
-                0x68,
-                0x07,
-                0x07,
-                0x68,
-                0x03,
-                0x02,
-                0x5d,
-                0x04,
-                0x7e,
-                0x00,
-                0x00,
-                0xe4,
-                0x16,
-            ],
-    )?;
+    check(&buffer[0..13] == b"\x68\x07\x07\x68\x03\x02\x5d\x04\x7e\x00\x00\xe4\x16")?;
     check(buffer[13] == 0xaa && buffer[299] == 0xaa).note("what lies behind stays")
 }
 

@@ -5,14 +5,14 @@ use Rattle.std.specs.declared.result.Result.{Result}
 use Rattle.std.specs.declared.result.Result.the-variants.{Ok, Err}
 use Rattle.frame.specs.Telegram.{Fields, fields-of}
 use Rattle.frame.specs.declared.refusal.Refusal.{Refusal}
-use Rattle.frames.specs.declared.telegram.Telegram.{Telegram}
+use Rattle.frames.specs.declared.decoded.Decoded.{Decoded}
 
 -- the fields that a decoded telegram carries, or why it is refused
-abbrev pub carried : Result Telegram Refusal → Result Fields Refusal
+abbrev pub carried : Result Decoded Refusal → Result Fields Refusal
 carried (Ok t) = Ok (fields-of (t .frame))
 carried (Err e) = Err e
 
 -- a decoded telegram is said to be written back the same
-abbrev pub Same : Result Telegram Refusal → Type 0
+abbrev pub Same : Result Decoded Refusal → Type 0
 Same (Ok t) = t .same ≡ true
 Same (Err e) = Unit {0}

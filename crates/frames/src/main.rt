@@ -1,13 +1,12 @@
 // Decodes a capture: a line of hexadecimal digits for each telegram in, a readable line out.
-mod telegram;
+mod decoded;
 
+use decoded::DecodedDisplay;
+use decoded::decode;
 use frame::hex;
 use std::error::AnyError;
 use std::io::BufRead;
 use std::io::BufReader;
-use telegram::Telegram;
-use telegram::TelegramDisplay;
-use telegram::decode;
 
 // Prints what a line of the capture holds: a telegram, ! and the refusal's number, or ? for a line that is no telegram's digits.
 fn show(rt: &LibcRuntime, line: &[u8]) -> Result<(), AnyError> {

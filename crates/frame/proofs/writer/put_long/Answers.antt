@@ -5,6 +5,6 @@ use Rattle.frame.proofs.writer.put_long.Needs as need
 
 pub returns : need.returns
 returns c = record {
-  count = sym (long-length (c .args .da) (c .args .sa) (c .args .fc) (c .args .«data» .now) (search needs));
-  after = long-put (c .args .buffer .now) (c .args .«data» .now) (c .args .da) (c .args .sa) (c .args .fc) _ _ _ _ (search needs) (c .copy-from-slice .ensures .after) (c .copy-from-slice-2 .ensures .after) (c .check-byte-fcs .ensures) (c .copy-from-slice-3 .ensures .after);
+  count = sym (long-length (c .args .destination .0) (c .args .source .0) (c .args .function .0) (c .args .«data» .now) (search needs));
+  bytes = long-put (c .args .buffer .now) (c .args .«data» .now) (c .args .destination .0) (c .args .source .0) (c .args .function .0) _ _ _ _ (search needs) (c .copy-from-slice .ensures .after) (c .copy-from-slice-2 .ensures .after) (c .check-byte-fcs .ensures) (c .copy-from-slice-3 .ensures .after);
 }

@@ -5,24 +5,25 @@ ghost use Rattle.frames.specs.Decoded.{carried, Same};
 use frame::Frame;
 use frame::Function;
 use frame::Kind;
+use frame::ROOM;
 use frame::Refusal;
 use frame::read;
 use frame::write;
 use std::fmt;
 
 #[derive(Clone, Copy)]
-pub struct Telegram<'a> {
+pub struct Decoded<'a> {
     frame: Frame<'a>,
     same: bool,
 }
 
 // Reads a telegram and writes its fields back: what is accepted comes back the same.
-pub fn decode(bytes: &[u8]) -> Result<Telegram<'_>, Refusal>
+pub fn decode(bytes: &[u8]) -> Result<Decoded<'_>, Refusal>
     ensures value { λ r. ⌜ carried r ≡ reading (now (bytes .entry)) ⌝ }
     ensures same { λ r. ⌜ Same r ⌝ }
 {
     let frame = read(bytes)?;
-    let mut buffer = [0u8; 255];
+    let mut buffer = [0u8; ROOM];
     let n = write(
         frame.destination,
         frame.source,
@@ -31,7 +32,7 @@ pub fn decode(bytes: &[u8]) -> Result<Telegram<'_>, Refusal>
         &mut buffer,
     )?;
     let same = &buffer[0..n] == bytes;
-    Ok(Telegram { frame, same })
+    Ok(Decoded { frame, same })
 }
 
 fn layout(kind: Kind) -> &'static str {
@@ -41,30 +42,28 @@ fn layout(kind: Kind) -> &'static str {
     }
 }
 
-// What the top bits of the two addresses say: both, neither or one of them.
+// Whether the data begin with two service bytes: both top bits say so, and the two bytes are there.
 fn services(frame: &Frame<'_>) -> &'static str {
     match (
         frame.destination.has_services(),
         frame.source.has_services(),
     ) {
-        (true, true) => "services",
+        (true, true) if frame.data.len() >= 2 => "services",
         (false, false) => "no services",
-        _ => "unlike",
+        _ => "unclear",
     }
 }
 
-fn asks(frame: &Frame<'_>) -> &'static str {
-    if !frame.function.is_request() {
-        return "reply";
-    }
-    match frame.function.function() {
+fn asks(function: Function) -> &'static str {
+    match function {
         Function::SendAndReply => "send and reply",
         Function::Status => "status",
-        Function::Other => "other request",
+        Function::OtherRequest => "other request",
+        Function::Reply => "reply",
     }
 }
 
-pub impl fmt::Display for Telegram<'_> as TelegramDisplay {
+pub impl fmt::Display for Decoded<'_> as DecodedDisplay {
     fn fmt<W: fmt::Write>(&self, f: &mut fmt::Formatter<W>) -> fmt::Result {
         let frame = &self.frame;
         let layout = layout(frame.kind());
@@ -72,7 +71,7 @@ pub impl fmt::Display for Telegram<'_> as TelegramDisplay {
         let destination = frame.destination.station();
         let services = services(frame);
         let code = frame.function.0;
-        let asks = asks(frame);
+        let asks = asks(frame.function.function());
         let count = frame.data.len();
         write!(
             f,

@@ -2,7 +2,7 @@ use lib.Dec.{lit≤}
 use lib.ListN.{replicate}
 use Rattle.frame.specs.Telegram.{fields-of}
 use Rattle.frames.proofs.Same.{same}
-use Rattle.frames.proofs.telegram.decode.Needs as need
+use Rattle.frames.proofs.decoded.decode.Needs as need
 
 pub returns : need.returns
 returns c = record {
