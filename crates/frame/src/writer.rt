@@ -46,19 +46,10 @@ fn put_long(
     requires { ⌜ room-needed ≤ length (now buffer) ⌝ ∗ ⌜ 0 < length (now «data») ⌝ ∗ ⌜ length (now «data») ≤ most-data ⌝ }
     ensures { λ r. ⌜ Put-down (destination .0) (source .0) (function .0) (now («data» .entry)) r (now (buffer .entry)) (now (buffer .exit)) ⌝ }
 {
+    let (da, sa, fc) = (destination.0, source.0, function.0);
     let n = data.len();
     let le = (n + 3) as u8;
-    buffer[0..7].copy_from_slice(
-        &[
-            LONG_START,
-            le,
-            le,
-            LONG_START,
-            destination.0,
-            source.0,
-            function.0,
-        ],
-    );
+    buffer[0..7].copy_from_slice(&[LONG_START, le, le, LONG_START, da, sa, fc]);
     buffer[7..n + 7].copy_from_slice(data);
     let fcs = check_byte(&buffer[4..n + 7]);
     buffer[n + 7..n + 9].copy_from_slice(&[fcs, END]);
