@@ -18,6 +18,7 @@ pub enum HexError {
 // The digits in the order of their values.
 const DIGITS: &[u8; 16] = b"0123456789ABCDEF";
 
+// The digit with this value.
 fn digit(value: u8) -> u8
     requires { ⌜ value < 16 ⌝ }
     ensures { λ r. ⌜ r ≡ digit-of value ⌝ }
@@ -25,12 +26,14 @@ fn digit(value: u8) -> u8
     DIGITS[value as usize]
 }
 
+// Whether a character is an upper-case digit.
 fn is_digit(c: u8) -> bool
     ensures { λ r. ⌜ r ≡ is-digit c ⌝ }
 {
     matches!(c, b'0'..=b'9' | b'A'..=b'F')
 }
 
+// The value of a digit.
 fn value(digit: u8) -> u8
     requires { ⌜ is-digit digit ≡ true ⌝ }
     ensures is { λ r. ⌜ r ≡ value-of digit ⌝ }
@@ -43,6 +46,7 @@ fn value(digit: u8) -> u8
     }
 }
 
+// Whether each character is a digit.
 fn all_digits(text: &[u8]) -> bool
     ensures { λ r. ⌜ r ≡ all-digits (now (text .entry)) ⌝ }
 {
@@ -54,12 +58,14 @@ fn all_digits(text: &[u8]) -> bool
     true
 }
 
+// Whether the text is an even run of digits.
 fn is_hex(text: &[u8]) -> bool
     ensures { λ r. ⌜ r ≡ is-hex (now (text .entry)) ⌝ }
 {
     text.len() % 2 == 0 && all_digits(text)
 }
 
+// Writes two digits for each byte, the high one first.
 fn put_digits(bytes: &[u8], text: &mut [u8])
     requires { ⌜ 2 * length (now bytes) ≤ length (now text) ⌝ }
     ensures { λ _. ⌜ now (text .exit) ≡ digits-of (now (bytes .entry)) ++ drop (2 * length (now (bytes .entry))) (now (text .entry)) ⌝ }
@@ -70,6 +76,7 @@ fn put_digits(bytes: &[u8], text: &mut [u8])
     }
 }
 
+// Writes a byte for each two digits.
 fn put_bytes(text: &[u8], bytes: &mut [u8])
     requires { ⌜ all-digits (now text) ≡ true ⌝ ∗ ⌜ length (now text) / 2 ≤ length (now bytes) ⌝ }
     ensures { λ _. ⌜ now (bytes .exit) ≡ bytes-of (now (text .entry)) ++ drop (length (now (text .entry)) / 2) (now (bytes .entry)) ⌝ }

@@ -21,16 +21,18 @@ const LEAST_LE: usize = 4;
 
 const MOST_LE: usize = 249;
 
+// 10h, DA, SA, FC, FCS, 16h.
 fn is_short(bytes: &[u8]) -> bool
     ensures { λ r. ⌜ r ≡ is-short (now (bytes .entry)) ⌝ }
 {
     bytes.len() == 6 && bytes[0] == SHORT_START && bytes[5] == END
 }
 
+// 68h, LE, LE, 68h, the bytes that LE counts, FCS, 16h.
 fn is_long(bytes: &[u8]) -> bool
     ensures { λ r. ⌜ r ≡ is-long (now (bytes .entry)) ⌝ }
 {
-    // with the length test below, this refuses an LE under the least
+    // shorter than LE 4 has it, so an LE below 4 cannot fit the length
     if bytes.len() < LEAST_LE + AROUND {
         return false;
     }

@@ -1,4 +1,5 @@
-use Rattle.frame.proofs.Digits.{decode-no-hex, decode-refused, decode-made, text-is-its-digits}
+use Rattle.frame.proofs.Coding.{decode-no-hex, decode-refused, decode-made}
+use Rattle.frame.proofs.DigitsBack.{text-is-its-digits}
 use Rattle.frame.proofs.hex.decode.Needs as need
 
 pub returns-then-not-is-hex : need.returns-then-not-is-hex

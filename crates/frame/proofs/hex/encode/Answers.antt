@@ -1,4 +1,5 @@
-use Rattle.frame.proofs.Digits.{encode-refused, encode-made, read-back}
+use Rattle.frame.proofs.Coding.{encode-refused, encode-made}
+use Rattle.frame.proofs.DigitsBack.{read-back}
 use Rattle.frame.proofs.hex.encode.Needs as need
 
 pub returns-then-text-n : need.returns-then-text-n
