@@ -89,7 +89,6 @@ module _ (bytes : List ℕ) (k v : ℕ) (within : k < length bytes) (byte : getD
   long-kept : Long bytes → 4 ≤ k → k ≤ getD bytes 1 0 + 4 → Long changed
   long-kept l lo hi =
       let le = elsewhere 1 (omega arith) in
-      let far : getD bytes 1 0 + 5 ≡ k → ⊥ = omega arith in
       record {
         start = elsewhere 0 (omega arith) ∙ l .start;
         again = elsewhere 2 (omega arith) ∙ l .again ∙ sym le;

@@ -1,11 +1,11 @@
 -- Bytes and their digits, place by place, and the loops that write them. Assumes nothing.
 use mathlib.Core.Path.{_≡_, refl, sym, ap, _∙_}
-use mathlib.Core.Bool.{true}
+use mathlib.Core.Bool.{Bool, _&&_, true}
 use mathlib.Core.List.{List, [], _∷_, _++_}
 use Prim.Native.Nat.{ℕ, zero, suc, _+_, _*_, _/_, _%_, _≤_, _<_}
 use native.Mathlib.Omega.{arith}
 use lib.ListN.{length, getD, take, drop, set}
-use Rattle.std.proofs.shelf.Lists.{append-assoc, drop-more, length-take-le, set-at, take-all, take-more}
+use Rattle.std.proofs.shelf.Lists.{append-assoc, at-drop-more, drop-more, length-take-le, set-at, take-all, take-more}
 use Rattle.std.proofs.shelf.Tests.{and-parts}
 use Rattle.frame.specs.Hex.{digit-of, digits-of, is-digit, value-of, all-digits, bytes-of}
 
@@ -43,6 +43,10 @@ pub digit-at : (text : List ℕ) (k : ℕ) → all-digits text ≡ true → k < 
 digit-at [] k e h = absurd (omega arith)
 digit-at (c ∷ cs) zero e h = and-parts _ _ e .0
 digit-at (c ∷ cs) (suc k) e h = digit-at cs k (and-parts _ _ e .1) (omega arith)
+
+-- one turn of the loop that looks at each character
+pub digits-step : (text : List ℕ) (i : ℕ) (b : Bool) → i < length text → b ≡ is-digit (getD text i 0) → (b && all-digits (drop (i + 1) text)) ≡ all-digits (drop i text)
+digits-step text i b h e = ap (λ d. d && all-digits (drop (i + 1) text)) e ∙ sym (at-drop-more all-digits text i 0 h)
 
 -- old with its first n elements taken from new
 abbrev pub over : List ℕ → List ℕ → ℕ → List ℕ

@@ -11,7 +11,8 @@ use Rattle.std.proofs.shelf.Tests.{cond-false, le-ltb}
 use Rattle.std.specs.declared.result.Result.the-variants.{Ok}
 use Rattle.frame.specs.Check.{check-byte}
 use Rattle.frame.specs.Telegram.{telegram}
-use Rattle.frame.specs.Writer.{Put-down, writing, written, put-by}
+use Rattle.frame.specs.Buffer.{put-by}
+use Rattle.frame.specs.Writer.{Put-down, writing, written}
 
 -- the bytes before the data
 abbrev pub head : ℕ → ℕ → ℕ → ℕ → List ℕ

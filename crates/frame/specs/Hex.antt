@@ -1,15 +1,16 @@
 -- Upper-case hexadecimal text, as character codes. Assumes nothing.
 use mathlib.Core.Path.{_≡_}
 use mathlib.Core.Bool.{Bool, true, cond, _&&_, _||_}
-use mathlib.Core.List.{List, [], _∷_, _++_}
+use mathlib.Core.List.{List, [], _∷_}
 use Prim.Native.Nat.{ℕ, _+_, _-_, _*_, _/_, _%_}
 use lib.Chars.{codes}
 use lib.Dec.{eqb, leb, ltb}
-use lib.ListN.{length, getD, take, drop}
+use lib.ListN.{length, getD, take}
 use Rattle.std.specs.declared.option.Option.{Option}
 use Rattle.std.specs.declared.option.Option.the-variants.{Some, None}
 use Rattle.std.specs.declared.result.Result.{Result}
 use Rattle.std.specs.declared.result.Result.the-variants.{Ok, Err}
+use Rattle.frame.specs.Buffer.{put-by}
 use Rattle.frame.specs.declared.hex.HexError.{HexError}
 use Rattle.frame.specs.declared.hex.HexError.the-variants.{NotHex, NoRoom}
 
@@ -53,19 +54,19 @@ read-as text = cond (is-hex text) (Some (bytes-of text)) None
 abbrev pub encoding : List ℕ → ℕ → Result ℕ HexError
 encoding bytes room = cond (ltb room (length (digits-of bytes))) (Err NoRoom) (Ok (length (digits-of bytes)))
 
--- the text then: the digits, then what was there; a refusal leaves all
+-- the text then
 abbrev pub encoded : List ℕ → List ℕ → List ℕ
-encoded bytes text = cond (ltb (length text) (length (digits-of bytes))) text (digits-of bytes ++ drop (length (digits-of bytes)) text)
+encoded bytes text = put-by (encoding bytes (length text)) (digits-of bytes) text
 
 -- the answer for what a text is read as and this much room for it: how many bytes they are
 abbrev pub decoding : Option (List ℕ) → ℕ → Result ℕ HexError
 decoding None room = Err NotHex
 decoding (Some xs) room = cond (ltb room (length xs)) (Err NoRoom) (Ok (length xs))
 
--- the memory then: the bytes, then what was there; a refusal leaves all
+-- the memory then
 abbrev pub decoded : Option (List ℕ) → List ℕ → List ℕ
 decoded None bytes = bytes
-decoded (Some xs) bytes = cond (ltb (length bytes) (length xs)) bytes (xs ++ drop (length xs) bytes)
+decoded (Some xs) bytes = put-by (decoding (Some xs) (length bytes)) xs bytes
 
 -- the digits of any bytes are read back as these bytes
 abbrev pub Digits-are-read-back : List ℕ → Result ℕ HexError → List ℕ → Type 0

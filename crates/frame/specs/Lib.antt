@@ -1,5 +1,6 @@
 pub mod Refusal
 pub mod Check
+pub mod Buffer
 pub mod Telegram
 pub mod Reader
 pub mod Writer

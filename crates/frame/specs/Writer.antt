@@ -7,6 +7,7 @@ use lib.Dec.{ltb}
 use lib.ListN.{length, drop}
 use Rattle.std.specs.declared.result.Result.{Result}
 use Rattle.std.specs.declared.result.Result.the-variants.{Ok, Err}
+use Rattle.frame.specs.Buffer.{put-by}
 use Rattle.frame.specs.Telegram.{telegram}
 use Rattle.frame.specs.declared.refusal.Refusal.{Refusal}
 use Rattle.frame.specs.declared.refusal.Refusal.the-variants.{BufferTooSmall, DataTooLong}
@@ -29,11 +30,6 @@ writing da sa fc xs room =
 pub record Put-down (da sa fc : ℕ) (xs : List ℕ) (n : ℕ) (before after : List ℕ) : Type 0 where
   pub count : n ≡ length (telegram da sa fc xs)
   pub bytes : after ≡ telegram da sa fc xs ++ drop n before
-
--- a buffer after an answer: the telegram, then the bytes that were there; a refusal leaves every byte
-abbrev pub put-by : Result ℕ Refusal → List ℕ → List ℕ → List ℕ
-put-by (Ok n) bytes buffer = bytes ++ drop n buffer
-put-by (Err e) bytes buffer = buffer
 
 -- what the buffer holds after the call
 abbrev pub written : ℕ → ℕ → ℕ → List ℕ → List ℕ → List ℕ
