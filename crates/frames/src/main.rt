@@ -1,20 +1,20 @@
 // Decodes a capture: a line of hexadecimal digits for each telegram in, a readable line out.
 mod decoded;
+mod line;
 
 use decoded::DecodedDisplay;
 use decoded::decode;
-use frame::hex;
+use line::bytes_of;
 use std::error::AnyError;
 use std::io::BufRead;
 use std::io::BufReader;
 
 // Prints what a line of the capture holds: a telegram, ! and the refusal's number, or ? for a line that is no telegram's digits.
 fn show(rt: &LibcRuntime, line: &[u8]) -> Result<(), AnyError> {
-    let mut bytes = vec![in rt.alloc(); 0u8; line.len() / 2]?;
-    if line.is_empty() || hex::decode(line, bytes.as_mut_slice()).is_err() {
+    let Some(bytes) = bytes_of(rt.alloc(), line)? else {
         println!(rt, "?")?;
         return Ok(());
-    }
+    };
     match decode(bytes.as_slice()) {
         Ok(telegram) => println!(rt, "{telegram}")?,
         Err(refusal) => println!(rt, "!{}", refusal.number())?,
