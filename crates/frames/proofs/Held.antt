@@ -14,7 +14,6 @@ use Rattle.std.specs.declared.result.Result.the-variants.{Ok, Err}
 use Rattle.frame.specs.Buffer.{put-by}
 use Rattle.frame.specs.Hex.{is-hex, bytes-of, read-as, decoding, decoded}
 use Rattle.frame.specs.declared.hex.HexError.{HexError}
-use Rattle.frame.specs.declared.hex.HexError.the-variants.{NotHex}
 use Rattle.frame.proofs.Digits.{length-bytes}
 use Rattle.frames.specs.Line.{line-bytes}
 
