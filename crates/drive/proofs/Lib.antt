@@ -1,0 +1,4 @@
+pub mod Change
+pub mod Lawful
+pub mod Ticks
+pub mod Toward
