@@ -1,0 +1,7 @@
+pub mod Ascending
+pub mod Bisection
+pub mod KeyOrder
+pub mod Accepting
+pub mod Finding
+pub mod InUse
+pub mod Writing
