@@ -8,9 +8,9 @@ use Rattle.drive.specs.declared.error.ChangeError.{ChangeError}
 use Rattle.drives.specs.declared.step.Step.{Step}
 use Rattle.drives.specs.declared.step.Step.the-variants.{Command, Change, Tick, Reset}
 
--- the answer to a step, and the meaning before and after it; ticks and resets say what exactly those make of the drive
-abbrev pub Stepped : (ticks resets : Type 0) → Step → Result Unit ChangeError → Meaning → Meaning → Type 0
-Stepped ticks resets (Command c) r before after = (r ≡ Ok tt) × (after ≡ with-command before (command-of c))
-Stepped ticks resets (Change g n w v) r before after = (r ≡ change-answer before g n w v) × (after ≡ changed r before g n v)
-Stepped ticks resets Tick r before after = (r ≡ Ok tt) × Ticked before after × ticks
-Stepped ticks resets Reset r before after = (r ≡ Ok tt) × Only-fault before after × resets
+-- the answer to a step, and the meaning before and after it; ticks, resets and keeps are what the make of drive says besides
+abbrev pub Stepped : (ticks resets keeps : Type 0) → Step → Result Unit ChangeError → Meaning → Meaning → Type 0
+Stepped ticks resets keeps (Command c) r before after = (r ≡ Ok tt) × (after ≡ with-command before (command-of c)) × keeps
+Stepped ticks resets keeps (Change g n w v) r before after = (r ≡ change-answer before g n w v) × (after ≡ changed r before g n v) × keeps
+Stepped ticks resets keeps Tick r before after = (r ≡ Ok tt) × Ticked before after × ticks
+Stepped ticks resets keeps Reset r before after = (r ≡ Ok tt) × Only-fault before after × resets

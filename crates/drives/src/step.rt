@@ -23,7 +23,7 @@ pub enum Step {
 
 // Takes the step; only a change can be refused.
 pub fn take<D: Drive>(drive: &mut D, step: Step) -> Result<(), ChangeError>
-    ensures { λ r. ⌜ Stepped (D·Drive .ticks (now (drive .entry)) (now (drive .exit))) (D·Drive .resets (now (drive .entry)) (now (drive .exit))) step r (D·Drive .meaning (now (drive .entry))) (D·Drive .meaning (now (drive .exit))) ⌝ }
+    ensures { λ r. ⌜ Stepped (D·Drive .ticks (now (drive .entry)) (now (drive .exit))) (D·Drive .resets (now (drive .entry)) (now (drive .exit))) (D·Drive .keeps (now (drive .entry)) (now (drive .exit))) step r (D·Drive .meaning (now (drive .entry))) (D·Drive .meaning (now (drive .exit))) ⌝ }
 {
     match step {
         Step::Command(command) => drive.set_command(command),
