@@ -27,14 +27,14 @@ pub trait Drive {
         ensures value { λ r. ⌜ r ≡ meaning (now (self .entry)) .cells group number ⌝ }
         ensures lawful { λ _. ⌜ Cells-lawful (meaning (now (self .entry))) ⌝ };
 
-    // The cell takes the value, and nothing else changes; or the first check that fails refuses it, and nothing changes.
+    // The cell takes the value, and nothing else of the meaning changes; or the first check that fails refuses it, and the meaning stays.
     fn change(&mut self, group: u8, number: u8, width: Width, value: i32) -> Result<(), ChangeError>
         ensures answer { λ r. ⌜ r ≡ change-answer (meaning (now (self .entry))) group number width value ⌝ }
         ensures after { λ r. ⌜ meaning (now (self .exit)) ≡ changed r (meaning (now (self .entry))) group number value ⌝ }
         ensures refused_leaves { λ r. ⌜ Refused-leaves r (meaning (now (self .entry))) (meaning (now (self .exit))) ⌝ }
         ensures keeps { λ _. ⌜ keeps (now (self .entry)) (now (self .exit)) ⌝ };
 
-    // The command is in force from now on, and nothing else changes.
+    // The command is in force from now on, and nothing else of the meaning changes.
     fn set_command(&mut self, command: Command)
         ensures after { λ _. ⌜ meaning (now (self .exit)) ≡ with-command (meaning (now (self .entry))) (command-of command) ⌝ }
         ensures keeps { λ _. ⌜ keeps (now (self .entry)) (now (self .exit)) ⌝ };
@@ -44,7 +44,7 @@ pub trait Drive {
         ensures after { λ _. ⌜ Ticked (meaning (now (self .entry))) (meaning (now (self .exit))) ⌝ }
         ensures exact { λ _. ⌜ ticks (now (self .entry)) (now (self .exit)) ⌝ };
 
-    // The fault may change, and nothing else.
+    // The fault may change, and nothing else of the meaning.
     fn reset(&mut self)
         ensures after { λ _. ⌜ Reset (meaning (now (self .entry))) (meaning (now (self .exit))) ⌝ }
         ensures exact { λ _. ⌜ resets (now (self .entry)) (now (self .exit)) ⌝ };
