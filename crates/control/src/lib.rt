@@ -1,5 +1,7 @@
 // The drive states of a station: how control words step them, how an event settles, command, reference, scaling and status word.
 // Numbers and enums only: no drive is called from here, and nothing of the bus.
+#![tactic(auto)]
+
 mod command;
 mod control_word;
 mod drive_state;

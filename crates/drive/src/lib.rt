@@ -1,5 +1,7 @@
 // What a drive is: its cells, the command in force, speed, fault and link, and the trait that each make of drive meets.
 // No allocation, and nothing of the bus: a drive's maker takes this crate alone.
+#![tactic(auto)]
+
 mod cell;
 mod command;
 mod drive;

@@ -1,4 +1,6 @@
 // The drives on examples computed by hand. Each test is proved safe, then run.
+#![tactic(auto)]
+
 #[cfg(test)]
 mod cells;
 #[cfg(test)]

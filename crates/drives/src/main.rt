@@ -1,4 +1,6 @@
 // Shows three makes of drive at work: starts, ramps, refused changes, trips and resets, a line for each step.
+#![tactic(auto)]
+
 mod row;
 mod scene;
 mod step;

@@ -1,5 +1,7 @@
 // PROFIBUS telegrams: a reader that borrows its input, a writer into a lent buffer, and hexadecimal text.
 // No allocation, and nothing of the station: a gateway takes this crate alone.
+#![tactic(auto)]
+
 mod check;
 pub mod hex;
 mod reader;

@@ -1,4 +1,6 @@
 // The frame crate on examples computed by hand. Each test is proved safe, then run.
+#![tactic(auto)]
+
 #[cfg(test)]
 mod hex;
 #[cfg(test)]

@@ -1,4 +1,6 @@
 // Decodes a capture: a line of hexadecimal digits for each telegram in, a readable line out.
+#![tactic(auto)]
+
 mod decoded;
 mod line;
 

@@ -1,5 +1,7 @@
 // A drive whose cells lie in a list that the caller lends, and are changed there.
 // No allocation: the memory is the caller's.
+#![tactic(auto)]
+
 mod acceptance;
 mod key;
 mod refusal;
