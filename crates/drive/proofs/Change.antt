@@ -1,5 +1,5 @@
 -- What a drive's maker owes of a change, from the cell that was found and its check. Assumes nothing.
-use Rattle.std.proofs.Common.{◌≡◌, ℕ, ℤ, Some, None, Ok, Err, Option, Result, sym, refl, ap, ◌∙◌}
+use Rattle.std.proofs.Common.{◌≡◌, ℕ, ℤ, Some, None, Ok, Err, Result, sym, refl, ap, ◌∙◌}
 use mathlib.Core.Path.{fun_ext}
 use Rattle.drive.specs.Cell.{change_check}
 use Rattle.drive.specs.Meaning.{Meaning, Cells, change_found, change_answer, changed, put, with_cells, RefusedLeaves}

@@ -2,7 +2,7 @@
 use Rattle.std.proofs.Common.{◌≡◌, ℕ, ℤ, pos, ◌≤ℤ◌, sym, refl, ap, ◌∙◌, subst, ⊎_elim, arith}
 use Rattle.std.proofs.lemmas.Int.{ints, clamps}
 use Rattle.std.proofs.lemmas.Bool.{cases_eq}
-use Rattle.drive.specs.Command.{InForce, target}
+use Rattle.drive.specs.Command.{target}
 use Rattle.drive.specs.Laws.{HoweverManyTicks}
 use Rattle.drive.specs.Meaning.{Meaning, Ticked}
 use Rattle.drive.specs.Speed.{InSpan}

@@ -1,5 +1,5 @@
 -- Cells: what a sound one is, and how one takes a value. Assumes nothing.
-use Rattle.std.specs.Prelude.{ℕ, Bool, true, false, cond, not, ◌&&◌, ℤ, ◌≤ℤ◌, Ok, Err, Result, ◌==◌, nat_le}
+use Rattle.std.specs.Prelude.{ℕ, Bool, cond, not, ◌&&◌, ℤ, ◌≤ℤ◌, Ok, Err, Result, ◌==◌, nat_le}
 use Rattle.drive.specs.Command.{InForce, is_off}
 use Rattle.drive.specs.Width.{width_bits, within, fits}
 use Rattle.drive.specs.declared.cell.Cell.{Cell}

@@ -1,4 +1,4 @@
-use Rattle.std.proofs.Common.{◌≡◌, refl, add-one}
+use Rattle.std.proofs.Common.{refl, add-one}
 use Rattle.drive.proofs.Ticks.{no_tick, one_more}
 use Rattle.drive.proofs.ticking.tick_times.Goals as goal
 

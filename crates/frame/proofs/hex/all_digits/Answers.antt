@@ -4,11 +4,11 @@ use Rattle.frame.specs.Hex.{all_digits}
 use Rattle.frame.proofs.Digits.{digits_step}
 use Rattle.frame.proofs.hex.all_digits.Goals as goal
 
-pub returns-then-not-is-digit : goal.returns-then-not-is-digit
-returns-then-not-is-digit c = digits_step c.args.text.now c.loop-c.c-index _ (omega arith) c.if-not-is-digit.ensures ∙ c.loop-c.invariant
+pub returns-then-not-is_digit : goal.returns-then-not-is_digit
+returns-then-not-is_digit c = digits_step c.args.text.now c.loop-c.c-index _ (omega arith) c.if-not-is_digit.ensures ∙ c.loop-c.invariant
 
 pub loop-c-preserved : goal.loop-c-preserved
-loop-c-preserved c = digits_step c.args.text.now c.loop-c.c-index _ (omega arith) c.if-not-is-digit.ensures ∙ c.loop-c.invariant
+loop-c-preserved c = digits_step c.args.text.now c.loop-c.c-index _ (omega arith) c.if-not-is_digit.ensures ∙ c.loop-c.invariant
 
 pub returns : goal.returns
 returns c = sym (at_drop_all all_digits c.args.text.now c.loop-c.c-index c.loop-c-test.false) ∙ c.loop-c.invariant

@@ -9,9 +9,9 @@ returns-then-text-n c =
 
 pub returns : goal.returns
 returns c =
-    let p = encode_made c.args.bytes.now c.args.text.now _ c.if-text-n.false c.put-digits.ensures in
+    let p = encode_made c.args.bytes.now c.args.text.now _ c.if-text-n.false c.put_digits.ensures in
     record {
       value = p.0;
       after = p.1;
-      digits_are_read_back = read_back c.args.bytes.now c.args.text.now _ (λ k. (c.type-inv.bytes k).fits) c.put-digits.ensures;
+      digits_are_read_back = read_back c.args.bytes.now c.args.text.now _ (λ k. (c.type_inv.bytes k).fits) c.put_digits.ensures;
     }

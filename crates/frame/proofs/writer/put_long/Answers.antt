@@ -5,5 +5,5 @@ use Rattle.frame.proofs.writer.put_long.Goals as goal
 pub returns : goal.returns
 returns c = record {
   count = sym (long_length c.args.destination.0 c.args.source.0 c.args.function.0 c.args.«data».now (search rules));
-  bytes = long_put c.args.buffer.now c.args.«data».now c.args.destination.0 c.args.source.0 c.args.function.0 _ _ _ _ (search rules) c.copy-from-slice.ensures.after c.copy-from-slice-2.ensures.after c.check-byte-fcs.ensures c.copy-from-slice-3.ensures.after;
+  bytes = long_put c.args.buffer.now c.args.«data».now c.args.destination.0 c.args.source.0 c.args.function.0 _ _ _ _ (search rules) c.copy_from_slice.ensures.after c.copy_from_slice-2.ensures.after c.check_byte-fcs.ensures c.copy_from_slice-3.ensures.after;
 }

@@ -5,11 +5,11 @@ use Rattle.frames.proofs.decoded.decode.Goals as goal
 
 pub returns : goal.returns
 returns c = record {
-  value = c.in-ok-frame.ensures.value;
-  same = same c.args.bytes.now (replicate 255 0) _ (fields_of c.in-ok-frame.frame) c.in-ok-n.n _
-      c.in-ok-frame.ensures.accepted_is_written
+  value = c.in_ok-frame.ensures.value;
+  same = same c.args.bytes.now (replicate 255 0) _ (fields_of c.in_ok-frame.frame) c.in_ok-n.n _
+      c.in_ok-frame.ensures.accepted_is_written
       (lit≤ tt)
-      c.in-ok-n.ensures.value
-      c.in-ok-n.ensures.after
+      c.in_ok-n.ensures.value
+      c.in_ok-n.ensures.after
       c.eq-same.ensures;
 }

@@ -9,12 +9,12 @@ loop-i-preserved c =
     let i = c.loop-i.i in
     let next : (i + 1) - 1 ≡ i = omega arith in
     ap (λ k. cells_rise (drop k cs)) next
-    ∙ rise_more cs i _ _ _ _ _ c.loop-i.auto.i c.loop-i-test.true c.of.ensures c.of-in-loop-i.ensures c.if-not-is-below.ensures
+    ∙ rise_more cs i _ _ _ _ _ c.loop-i.auto.i c.loop-i-test.true c.of.ensures c.of-in-loop-i.ensures c.if-not-is_below.ensures
     ∙ c.loop-i.invariant
 
-pub returns-then-not-is-below : goal.returns-then-not-is-below
-returns-then-not-is-below c =
-    rise_more c.args.cells.now c.loop-i.i _ _ _ _ _ c.loop-i.auto.i c.loop-i-test.true c.of.ensures c.of-in-loop-i.ensures c.if-not-is-below.ensures
+pub returns-then-not-is_below : goal.returns-then-not-is_below
+returns-then-not-is_below c =
+    rise_more c.args.cells.now c.loop-i.i _ _ _ _ _ c.loop-i.auto.i c.loop-i-test.true c.of.ensures c.of-in-loop-i.ensures c.if-not-is_below.ensures
     ∙ c.loop-i.invariant
 
 pub returns : goal.returns

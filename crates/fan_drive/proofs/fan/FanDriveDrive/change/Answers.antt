@@ -24,8 +24,8 @@ returns-in-Ok c =
     let stored : pos (nat_abs x) ≡ v = (taken_step _ _ c.args.group c.args.number c.in-Some.cell c.in-Some.ensures.value c.in-Ok.ensures.taken_fits).same ∙ same in
     let found = c.in-Some.ensures.value in
     record {
-      answer = answered m c.args.group c.args.number c.args.width v x same c.check-change-answer.result c.in-Some.cell found c.check-change-answer.ensures.value;
-      after = accepted m c.args.group c.args.number c.args.width v (pos (nat_abs x)) stored c.check-change-answer.result tt (fan_cells (pos (nat_abs x))) c.in-Ok.is (cell_set _ _ c.args.group c.args.number c.in-Some.cell found);
-      refused_leaves = accepted_leaves m c.args.group c.args.number c.args.width v x same c.check-change-answer.result tt _ c.in-Ok.is;
+      answer = answered m c.args.group c.args.number c.args.width v x same c.check_change-answer.result c.in-Some.cell found c.check_change-answer.ensures.value;
+      after = accepted m c.args.group c.args.number c.args.width v (pos (nat_abs x)) stored c.check_change-answer.result tt (fan_cells (pos (nat_abs x))) c.in-Ok.is (cell_set _ _ c.args.group c.args.number c.in-Some.cell found);
+      refused_leaves = accepted_leaves m c.args.group c.args.number c.args.width v x same c.check_change-answer.result tt _ c.in-Ok.is;
       keeps = tt;
     }

@@ -9,8 +9,8 @@ returns c =
     let list = c.args.self.now.cells.now in
     record {
       answer = c.judged-verdict.ensures;
-      after = ap (with_cells (table_meaning c.args.self.now)) (in_use_after c.judged-verdict.result list _ c.is-ok-self.ensures.value);
+      after = ap (with_cells (table_meaning c.args.self.now)) (in_use_after c.judged-verdict.result list _ c.is_ok-self.ensures.value);
       list = refl;
       keeps = record { lent = refl; step = refl };
-      finds = finds c.judged-verdict.result list _ c.is-ok-self.ensures.value c.judged-verdict.ensures;
+      finds = finds c.judged-verdict.result list _ c.is_ok-self.ensures.value c.judged-verdict.ensures;
     }
