@@ -5,8 +5,11 @@ use Rattle.bench_drive.specs.Bench.{bench_meaning}
 use Rattle.bench_drive.proofs.Values.{cells_set, within_set}
 use Rattle.bench_drive.proofs.bench.BenchDriveDrive.change.Goals as goal
 
-pub invariant-of-self : goal.invariant-of-self
-invariant-of-self c = (within_set c.args.self.now.values c.in-Some.place _ (grind (arith, ints, c.in-Ok.ensures.taken_fits)) c.args.self.now.within, (c.args.self.now.counted, tt))
+pub invariant_of-self : goal.invariant_of-self
+invariant_of-self c = record {
+  within = within_set c.args.self.now.values c.in-Some.place _ (grind (arith, ints, c.in-Ok.ensures.taken_fits)) c.args.self.now.within;
+  counted = c.args.self.now.counted;
+}
 
 pub returns-in-Ok : goal.returns-in-Ok
 returns-in-Ok c =

@@ -5,15 +5,15 @@ use Rattle.fan_drive.specs.Fan.{fan_meaning, fan_cells}
 use Rattle.fan_drive.proofs.StepCell.{cell_set, taken_step}
 use Rattle.fan_drive.proofs.fan.FanDriveDrive.change.Goals as goal
 
-pub overflow-cast-self : goal.overflow-cast-self
-overflow-cast-self c =
+pub overflow_cast-self : goal.overflow_cast-self
+overflow_cast-self c =
     let s = taken_step _ _ c.args.group c.args.number c.in-Some.cell c.in-Some.ensures.value c.in-Ok.ensures.taken_fits in
     (s.sign, s.fits)
 
-pub invariant-of-self : goal.invariant-of-self
-invariant-of-self c =
+pub invariant_of-self : goal.invariant_of-self
+invariant_of-self c =
     let s = taken_step _ _ c.args.group c.args.number c.in-Some.cell c.in-Some.ensures.value c.in-Ok.ensures.taken_fits in
-    (s.low, (s.high, tt))
+    record { low = s.low; high = s.high }
 
 pub returns-in-Ok : goal.returns-in-Ok
 returns-in-Ok c =

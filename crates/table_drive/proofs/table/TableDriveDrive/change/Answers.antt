@@ -34,15 +34,16 @@ returns-in_default-answer c =
       list = ap (λ q. list_after q t.cells.now (key c.args.group c.args.number) v) (sym c.in_default-answer.is);
     }
 
-pub invariant-of-self : goal.invariant-of-self
-invariant-of-self c =
+pub invariant_of-self : goal.invariant_of-self
+invariant_of-self c =
     let t = c.args.self.now in
     let list = t.cells.now in
     let at = placed_some t.accepted list c.args.group c.args.number c.in-Some.i t.rising c.in-Some.ensures in
-    let fits = c.in-Ok.ensures.taken_fits in (
-      λ used. ap (λ n. cells_rise (set list c.in-Some.i n)) c.with_value.ensures ∙ rises_set list c.in-Some.i _ _ (t.rising used),
-      (λ used. ap (λ n. all_sound (set list c.in-Some.i n)) c.with_value.ensures ∙ sound_set list c.in-Some.i _ _ (t.sound used) at.within fits.0 fits.1, tt),
-    )
+    let fits = c.in-Ok.ensures.taken_fits in
+    record {
+      rising = λ used. ap (λ n. cells_rise (set list c.in-Some.i n)) c.with_value.ensures ∙ rises_set list c.in-Some.i _ _ (t.rising used);
+      sound = λ used. ap (λ n. all_sound (set list c.in-Some.i n)) c.with_value.ensures ∙ sound_set list c.in-Some.i _ _ (t.sound used) at.within fits.0 fits.1;
+    }
 
 pub returns-in-Ok : goal.returns-in-Ok
 returns-in-Ok c =
