@@ -1,7 +1,6 @@
 // Cells: sound ones, and the checks of a change in their order.
 use drive::{Cell, ChangeError, Command, Speed, Width};
 use std::process::Abort;
-use std::test::Fail;
 
 const WORD: Cell = Cell {
     group: 12,
@@ -43,9 +42,13 @@ fn refused(
     width: Width,
     value: i32,
     error: ChangeError,
-) -> Result<(), Fail> {
-    assert_eq!(rt; cell.check_change(command, width, value), Err(error));
-    Ok(())
+    what: &str,
+) {
+    assert_eq!(rt;
+        cell.check_change(command, width, value),
+        Err(error),
+        "{what}"
+    );
 }
 
 fn taken(rt: &impl Abort, cell: Cell, command: Command, width: Width, value: i32) {
@@ -105,7 +108,7 @@ fn unsound(rt: HostRuntime) {
 }
 
 #[test]
-fn limits_of_a_change(rt: HostRuntime) -> Result<(), Fail> {
+fn limits_of_a_change(rt: HostRuntime) {
     taken(&rt, WORD, Command::Off, Width::Word, 2000);
     refused(
         &rt,
@@ -114,7 +117,8 @@ fn limits_of_a_change(rt: HostRuntime) -> Result<(), Fail> {
         Width::Word,
         2001,
         ChangeError::OutsideLimits,
-    )?;
+        "above the high limit",
+    );
     taken(&rt, WORD, Command::Off, Width::Word, -2000);
     refused(
         &rt,
@@ -123,7 +127,8 @@ fn limits_of_a_change(rt: HostRuntime) -> Result<(), Fail> {
         Width::Word,
         -2001,
         ChangeError::OutsideLimits,
-    )?;
+        "below the low limit",
+    );
     taken(&rt, WIDEST_WORD, Command::Off, Width::Word, 32767);
     taken(&rt, WIDEST_WORD, Command::Off, Width::Word, -32768);
     refused(
@@ -133,14 +138,14 @@ fn limits_of_a_change(rt: HostRuntime) -> Result<(), Fail> {
         Width::Word,
         32768,
         ChangeError::OutsideLimits,
-    )?;
+        "above the highest value of a word",
+    );
     taken(&rt, WIDEST_DOUBLE, Command::Off, Width::Double, 2147483647);
     taken(&rt, WIDEST_DOUBLE, Command::Off, Width::Double, -2147483648);
-    Ok(())
 }
 
 #[test]
-fn order_of_the_errors(rt: HostRuntime) -> Result<(), Fail> {
+fn order_of_the_errors(rt: HostRuntime) {
     let run = Command::Run(Speed::held(1));
     let locked = Cell {
         writable: false,
@@ -154,8 +159,8 @@ fn order_of_the_errors(rt: HostRuntime) -> Result<(), Fail> {
         Width::Double,
         2001,
         ChangeError::NotWritable,
-    )
-    .note("not writable and of another width")?;
+        "not writable and of another width",
+    );
     let guarded = Cell {
         only_while_off: true,
         ..WORD
@@ -167,7 +172,8 @@ fn order_of_the_errors(rt: HostRuntime) -> Result<(), Fail> {
         Width::Double,
         2001,
         ChangeError::OtherWidth,
-    )?;
+        "of another width",
+    );
     refused(
         &rt,
         guarded,
@@ -175,8 +181,17 @@ fn order_of_the_errors(rt: HostRuntime) -> Result<(), Fail> {
         Width::Word,
         2001,
         ChangeError::OutsideLimits,
-    )?;
-    refused(&rt, guarded, run, Width::Word, 5, ChangeError::OnlyWhileOff)?;
+        "above the high limit in a run",
+    );
+    refused(
+        &rt,
+        guarded,
+        run,
+        Width::Word,
+        5,
+        ChangeError::OnlyWhileOff,
+        "in a run",
+    );
     refused(
         &rt,
         guarded,
@@ -184,7 +199,8 @@ fn order_of_the_errors(rt: HostRuntime) -> Result<(), Fail> {
         Width::Word,
         5,
         ChangeError::OnlyWhileOff,
-    )?;
+        "in a ramp stop",
+    );
     refused(
         &rt,
         guarded,
@@ -192,9 +208,9 @@ fn order_of_the_errors(rt: HostRuntime) -> Result<(), Fail> {
         Width::Word,
         5,
         ChangeError::OnlyWhileOff,
-    )?;
+        "in a quick stop",
+    );
     taken(&rt, guarded, Command::Off, Width::Word, 5);
-    Ok(())
 }
 
 #[test]

@@ -1,7 +1,6 @@
 // Lists of cells, accepted and refused.
 use drive::{Cell, Drive, Width};
 use std::process::Abort;
-use std::test::Fail;
 use table_drive::{ListRefusal, MOST_CELLS, TableDrive};
 
 fn cell(group: u8, number: u8) -> Cell {
@@ -22,22 +21,26 @@ fn judged<const N: usize>(
     rt: &impl Abort,
     list: [Cell; N],
     expected: Result<(), ListRefusal>,
-) -> Result<(), Fail> {
+    what: &str,
+) {
     let mut lent = list;
     {
         let mut table = TableDrive::new(&mut lent, 1);
-        assert_eq!(rt; table.accept(), expected);
+        assert_eq!(rt; table.accept(), expected, "{what}");
         for cell in &list {
             let found = table.cell(cell.group, cell.number);
-            assert_eq!(rt; found, if expected.is_ok() { Some(*cell) } else { None });
+            assert_eq!(rt;
+                found,
+                if expected.is_ok() { Some(*cell) } else { None },
+                "{what}"
+            );
         }
     }
-    assert_eq!(rt; lent, list);
-    Ok(())
+    assert_eq!(rt; lent, list, "{what}");
 }
 
 #[test]
-fn in_order(rt: HostRuntime) -> Result<(), Fail> {
+fn in_order(rt: HostRuntime) {
     judged(
         &rt,
         [
@@ -48,7 +51,8 @@ fn in_order(rt: HostRuntime) -> Result<(), Fail> {
             cell(255, 255),
         ],
         Ok(()),
-    )
+        "rising",
+    );
 }
 
 #[test]
@@ -60,44 +64,89 @@ fn empty(rt: HostRuntime) {
 }
 
 #[test]
-fn not_rising(rt: HostRuntime) -> Result<(), Fail> {
-    judged(&rt, [cell(1, 1), cell(1, 1)], Err(ListRefusal::BadList)).note("two alike")?;
-    judged(&rt, [cell(1, 2), cell(1, 1)], Err(ListRefusal::BadList)).note("falling numbers")?;
-    judged(&rt, [cell(2, 1), cell(1, 2)], Err(ListRefusal::BadList)).note("falling groups")?;
+fn not_rising(rt: HostRuntime) {
+    judged(
+        &rt,
+        [cell(1, 1), cell(1, 1)],
+        Err(ListRefusal::BadList),
+        "two alike",
+    );
+    judged(
+        &rt,
+        [cell(1, 2), cell(1, 1)],
+        Err(ListRefusal::BadList),
+        "falling numbers",
+    );
+    judged(
+        &rt,
+        [cell(2, 1), cell(1, 2)],
+        Err(ListRefusal::BadList),
+        "falling groups",
+    );
     judged(
         &rt,
         [cell(1, 1), cell(2, 9), cell(3, 1), cell(2, 10)],
         Err(ListRefusal::BadList),
-    )
+        "a fall later on",
+    );
 }
 
 #[test]
-fn unsound(rt: HostRuntime) -> Result<(), Fail> {
-    judged(&rt, [cell(0, 1), cell(1, 1)], Err(ListRefusal::BadCell)).note("group 0")?;
-    judged(&rt, [cell(1, 0), cell(1, 1)], Err(ListRefusal::BadCell)).note("number 0")?;
+fn unsound(rt: HostRuntime) {
+    judged(
+        &rt,
+        [cell(0, 1), cell(1, 1)],
+        Err(ListRefusal::BadCell),
+        "group 0",
+    );
+    judged(
+        &rt,
+        [cell(1, 0), cell(1, 1)],
+        Err(ListRefusal::BadCell),
+        "number 0",
+    );
     let low_above_high = Cell {
         low: 101,
         ..cell(1, 1)
     };
-    judged(&rt, [low_above_high], Err(ListRefusal::BadCell)).note("low above high")?;
+    judged(
+        &rt,
+        [low_above_high],
+        Err(ListRefusal::BadCell),
+        "low above high",
+    );
     let beyond = Cell {
         high: 32768,
         ..cell(1, 1)
     };
-    judged(&rt, [beyond], Err(ListRefusal::BadCell)).note("a high limit beyond 16 bits")?;
+    judged(
+        &rt,
+        [beyond],
+        Err(ListRefusal::BadCell),
+        "a high limit beyond 16 bits",
+    );
     let outside = Cell {
         value: 101,
         ..cell(1, 1)
     };
-    judged(&rt, [outside], Err(ListRefusal::BadCell)).note("a value outside the limits")
+    judged(
+        &rt,
+        [outside],
+        Err(ListRefusal::BadCell),
+        "a value outside the limits",
+    );
 }
 
 #[test]
-fn order_before_soundness(rt: HostRuntime) -> Result<(), Fail> {
-    judged(&rt, [cell(1, 0), cell(1, 0)], Err(ListRefusal::BadList))?;
+fn order_before_soundness(rt: HostRuntime) {
+    judged(
+        &rt,
+        [cell(1, 0), cell(1, 0)],
+        Err(ListRefusal::BadList),
+        "neither rising nor sound",
+    );
     assert_eq!(rt; ListRefusal::BadList.number(), 8);
     assert_eq!(rt; ListRefusal::BadCell.number(), 9);
-    Ok(())
 }
 
 // The first keys in their order: 1.1 to 1.255, then 2.1 and on.
@@ -128,9 +177,9 @@ fn as_many_as_there_may_be(rt: HostRuntime) {
 }
 
 #[test]
-fn one_too_many(rt: HostRuntime) -> Result<(), Fail> {
+fn one_too_many(rt: HostRuntime) {
     let mut list = [cell(1, 1); 257];
     numbered(&mut list);
     list[0].value = 101;
-    judged(&rt, list, Err(ListRefusal::BadList))
+    judged(&rt, list, Err(ListRefusal::BadList), "257 cells");
 }

@@ -33,11 +33,10 @@ fn planned(first: PlanEntry, second: PlanEntry) -> BenchDrive {
 }
 
 // One tick more, and the fault and the link then.
-fn ticks_to(rt: &impl Abort, bench: &mut BenchDrive, fault: u16, link: Link) -> Result<(), Fail> {
+fn ticks_to(rt: &impl Abort, bench: &mut BenchDrive, fault: u16, link: Link, what: &str) {
     bench.tick();
-    assert_eq!(rt; bench.fault(), fault);
-    assert_eq!(rt; bench.link(), link);
-    Ok(())
+    assert_eq!(rt; bench.fault(), fault, "{what}");
+    assert_eq!(rt; bench.link(), link, "{what}");
 }
 
 #[test]
@@ -126,15 +125,14 @@ fn reaches_its_target_at_once(rt: HostRuntime) {
 }
 
 #[test]
-fn two_entries_for_one_tick(rt: HostRuntime) -> Result<(), Fail> {
+fn two_entries_for_one_tick(rt: HostRuntime) {
     let mut bench = planned(entry(2, 5, 1), entry(2, 9, 2));
-    ticks_to(&rt, &mut bench, 0, Link::Good)?;
-    ticks_to(&rt, &mut bench, 5, Link::LostForNow).note("the first one counts")?;
-    ticks_to(&rt, &mut bench, 5, Link::LostForNow)?;
+    ticks_to(&rt, &mut bench, 0, Link::Good, "nothing yet");
+    ticks_to(&rt, &mut bench, 5, Link::LostForNow, "the first one counts");
+    ticks_to(&rt, &mut bench, 5, Link::LostForNow, "and it stays");
     bench.reset();
     assert_eq!(rt; bench.fault(), 0, "a reset clears the fault");
     assert_eq!(rt; bench.link(), Link::LostForNow, "and nothing else");
-    Ok(())
 }
 
 #[test]
@@ -147,20 +145,26 @@ fn two_ticks_under_a_command(rt: HostRuntime) {
 }
 
 #[test]
-fn fault_0_keeps_the_fault(rt: HostRuntime) -> Result<(), Fail> {
+fn fault_0_keeps_the_fault(rt: HostRuntime) {
     let mut bench = planned(entry(1, 65535, 7), entry(2, 0, 0));
-    ticks_to(&rt, &mut bench, 65535, Link::LostForGood).note("link 7 means 2")?;
-    ticks_to(&rt, &mut bench, 65535, Link::Good)
+    ticks_to(&rt, &mut bench, 65535, Link::LostForGood, "link 7 means 2");
+    ticks_to(
+        &rt,
+        &mut bench,
+        65535,
+        Link::Good,
+        "fault 0 changes nothing",
+    );
 }
 
 #[test]
-fn the_last_tick_of_a_plan(rt: HostRuntime) -> Result<(), Fail> {
+fn the_last_tick_of_a_plan(rt: HostRuntime) {
     let mut bench = planned(entry(65535, 3, 1), entry(0, 8, 2));
     tick_times(&mut bench, 65533);
-    ticks_to(&rt, &mut bench, 0, Link::Good).note("tick 65534")?;
-    ticks_to(&rt, &mut bench, 3, Link::LostForNow).note("tick 65535")?;
+    ticks_to(&rt, &mut bench, 0, Link::Good, "tick 65534");
+    ticks_to(&rt, &mut bench, 3, Link::LostForNow, "tick 65535");
     bench.reset();
-    ticks_to(&rt, &mut bench, 0, Link::LostForNow).note("tick 65536")?;
+    ticks_to(&rt, &mut bench, 0, Link::LostForNow, "tick 65536");
     tick_times(&mut bench, 70000);
-    ticks_to(&rt, &mut bench, 0, Link::LostForNow).note("no entry fires again")
+    ticks_to(&rt, &mut bench, 0, Link::LostForNow, "no entry fires again");
 }

@@ -3,19 +3,16 @@ use frame::{Address, Frame, Function, FunctionCode, Kind, Refusal, read};
 use std::process::Abort;
 use std::test::Fail;
 
-fn accepted(rt: &impl Abort, bytes: &[u8]) -> Result<(), Fail> {
-    assert!(rt; read(bytes).is_ok());
-    Ok(())
+fn accepted(rt: &impl Abort, bytes: &[u8], what: &str) {
+    assert!(rt; read(bytes).is_ok(), "{what}");
 }
 
-fn no_layout(rt: &impl Abort, bytes: &[u8]) -> Result<(), Fail> {
-    assert_eq!(rt; read(bytes).err(), Some(Refusal::NoLayout));
-    Ok(())
+fn no_layout(rt: &impl Abort, bytes: &[u8], what: &str) {
+    assert_eq!(rt; read(bytes).err(), Some(Refusal::NoLayout), "{what}");
 }
 
-fn wrong_check_byte(rt: &impl Abort, bytes: &[u8]) -> Result<(), Fail> {
-    assert_eq!(rt; read(bytes).err(), Some(Refusal::WrongCheckByte));
-    Ok(())
+fn wrong_check_byte(rt: &impl Abort, bytes: &[u8], what: &str) {
+    assert_eq!(rt; read(bytes).err(), Some(Refusal::WrongCheckByte), "{what}");
 }
 
 #[test]
@@ -57,7 +54,7 @@ fn configuration_with_service_bytes(rt: HostRuntime) -> Result<(), Fail> {
     assert_eq!(rt; frame.destination.station(), 3);
     assert_eq!(rt; frame.source.station(), 2);
     assert!(rt; frame.destination.has_services() && frame.source.has_services());
-    assert!(rt; frame.data == &[0x3e, 0x3e, 0xf1]);
+    assert!(rt; frame.data == [0x3e, 0x3e, 0xf1].as_slice());
     Ok(())
 }
 
@@ -84,53 +81,77 @@ fn functions(rt: HostRuntime) {
 }
 
 #[test]
-fn short_damaged(rt: HostRuntime) -> Result<(), Fail> {
-    wrong_check_byte(&rt, b"\x10\x03\x02\x49\x4f\x16").note("FCS")?;
-    wrong_check_byte(&rt, b"\x10\x02\x02\x49\x4e\x16").note("DA")?;
-    wrong_check_byte(&rt, b"\x10\x03\x03\x49\x4e\x16").note("SA")?;
-    wrong_check_byte(&rt, b"\x10\x03\x02\x48\x4e\x16").note("FC")?;
-    no_layout(&rt, b"\x11\x03\x02\x49\x4e\x16").note("start")?;
-    no_layout(&rt, b"\x10\x03\x02\x49\x4e\x17").note("end")
+fn short_damaged(rt: HostRuntime) {
+    wrong_check_byte(&rt, b"\x10\x03\x02\x49\x4f\x16", "FCS");
+    wrong_check_byte(&rt, b"\x10\x02\x02\x49\x4e\x16", "DA");
+    wrong_check_byte(&rt, b"\x10\x03\x03\x49\x4e\x16", "SA");
+    wrong_check_byte(&rt, b"\x10\x03\x02\x48\x4e\x16", "FC");
+    no_layout(&rt, b"\x11\x03\x02\x49\x4e\x16", "start");
+    no_layout(&rt, b"\x10\x03\x02\x49\x4e\x17", "end");
 }
 
 #[test]
-fn long_damaged(rt: HostRuntime) -> Result<(), Fail> {
-    accepted(&rt, b"\x68\x05\x05\x68\x03\x02\x5d\x04\x7e\xe4\x16")?;
-    wrong_check_byte(&rt, b"\x68\x05\x05\x68\x03\x02\x5d\x04\x7f\xe4\x16").note("data")?;
-    wrong_check_byte(&rt, b"\x68\x05\x05\x68\x03\x02\x5d\x04\x7e\xe5\x16").note("FCS")?;
-    no_layout(&rt, b"\x68\x05\x06\x68\x03\x02\x5d\x04\x7e\xe4\x16").note("LE unlike")?;
-    no_layout(&rt, b"\x68\x06\x06\x68\x03\x02\x5d\x04\x7e\xe4\x16").note("LE too large")?;
-    no_layout(&rt, b"\x68\x05\x05\x10\x03\x02\x5d\x04\x7e\xe4\x16").note("second start")?;
-    no_layout(&rt, b"\x68\x05\x05\x68\x03\x02\x5d\x04\x7e\xe4\x10").note("end")
+fn long_damaged(rt: HostRuntime) {
+    accepted(
+        &rt,
+        b"\x68\x05\x05\x68\x03\x02\x5d\x04\x7e\xe4\x16",
+        "undamaged",
+    );
+    wrong_check_byte(&rt, b"\x68\x05\x05\x68\x03\x02\x5d\x04\x7f\xe4\x16", "data");
+    wrong_check_byte(&rt, b"\x68\x05\x05\x68\x03\x02\x5d\x04\x7e\xe5\x16", "FCS");
+    no_layout(
+        &rt,
+        b"\x68\x05\x06\x68\x03\x02\x5d\x04\x7e\xe4\x16",
+        "LE unlike",
+    );
+    no_layout(
+        &rt,
+        b"\x68\x06\x06\x68\x03\x02\x5d\x04\x7e\xe4\x16",
+        "LE too large",
+    );
+    no_layout(
+        &rt,
+        b"\x68\x05\x05\x10\x03\x02\x5d\x04\x7e\xe4\x16",
+        "second start",
+    );
+    no_layout(&rt, b"\x68\x05\x05\x68\x03\x02\x5d\x04\x7e\xe4\x10", "end");
 }
 
 #[test]
-fn too_many_or_too_few_bytes(rt: HostRuntime) -> Result<(), Fail> {
-    no_layout(&rt, &[])?;
-    no_layout(&rt, &[0x10])?;
-    no_layout(&rt, &[0xe5]).note("the one-byte acknowledgement is no telegram")?;
-    no_layout(&rt, &[0x10, 0x03, 0x02, 0x49, 0x4e])?;
-    no_layout(&rt, b"\x10\x03\x02\x49\x4e\x16\x16")?;
-    no_layout(&rt, b"\x68\x05\x05\x68\x03\x02\x5d\x04\x7e\xe4")?;
-    no_layout(&rt, b"\x68\x05\x05\x68\x03\x02\x5d\x04\x7e\xe4\x16\x16")
+fn too_many_or_too_few_bytes(rt: HostRuntime) {
+    no_layout(&rt, &[], "no byte");
+    no_layout(&rt, &[0x10], "one byte");
+    no_layout(&rt, &[0xe5], "the one-byte acknowledgement is no telegram");
+    no_layout(&rt, &[0x10, 0x03, 0x02, 0x49, 0x4e], "a byte short");
+    no_layout(&rt, b"\x10\x03\x02\x49\x4e\x16\x16", "a byte more");
+    no_layout(
+        &rt,
+        b"\x68\x05\x05\x68\x03\x02\x5d\x04\x7e\xe4",
+        "a byte short",
+    );
+    no_layout(
+        &rt,
+        b"\x68\x05\x05\x68\x03\x02\x5d\x04\x7e\xe4\x16\x16",
+        "a byte more",
+    );
 }
 
 #[test]
-fn le_at_its_limits(rt: HostRuntime) -> Result<(), Fail> {
-    no_layout(&rt, b"\x68\x03\x03\x68\x03\x02\x5d\x62\x16").note("LE 3")?;
-    accepted(&rt, b"\x68\x04\x04\x68\x03\x02\x5d\x00\x62\x16").note("LE 4")?;
+fn le_at_its_limits(rt: HostRuntime) {
+    no_layout(&rt, b"\x68\x03\x03\x68\x03\x02\x5d\x62\x16", "LE 3");
+    accepted(&rt, b"\x68\x04\x04\x68\x03\x02\x5d\x00\x62\x16", "LE 4");
     let mut longest = [0u8; 255];
     longest[0] = 0x68;
     longest[1] = 249;
     longest[2] = 249;
     longest[3] = 0x68;
     longest[254] = 0x16;
-    accepted(&rt, &longest).note("LE 249")?;
+    accepted(&rt, &longest, "LE 249");
     let mut longer = [0u8; 256];
     longer[0] = 0x68;
     longer[1] = 250;
     longer[2] = 250;
     longer[3] = 0x68;
     longer[255] = 0x16;
-    no_layout(&rt, &longer).note("LE 250")
+    no_layout(&rt, &longer, "LE 250");
 }

@@ -9,7 +9,7 @@ fn short_telegram(rt: HostRuntime) {
         write(Address(3), Address(2), FunctionCode(0x49), &[], &mut buffer),
         Ok(6)
     );
-    assert!(rt; &buffer[0..6] == b"\x10\x03\x02\x49\x4e\x16");
+    assert!(rt; &buffer[0..6] == b"\x10\x03\x02\x49\x4e\x16".as_slice());
     assert!(rt;
         buffer[6] == 0xaa && buffer[254] == 0xaa,
         "what lies behind stays"
@@ -29,7 +29,9 @@ fn long_telegram(rt: HostRuntime) {
         ),
         Ok(13)
     );
-    assert!(rt; &buffer[0..13] == b"\x68\x07\x07\x68\x03\x02\x5d\x04\x7e\x00\x00\xe4\x16");
+    assert!(rt;
+        &buffer[0..13] == b"\x68\x07\x07\x68\x03\x02\x5d\x04\x7e\x00\x00\xe4\x16".as_slice()
+    );
     assert!(rt;
         buffer[13] == 0xaa && buffer[299] == 0xaa,
         "what lies behind stays"
