@@ -1,13 +1,12 @@
 -- A ratio cut towards 0 keeps order and mirrors signs; so does holding within full speed. Assumes nothing.
-use Rattle.std.proofs.Common.{◌≡◌, ℕ, zero, suc, ◌+◌, ◌-◌, ◌*◌, ◌/◌, ◌<◌, ◌≤◌, ℤ, pos, negsuc, ◌*ℤ◌, neg_ℤ, ◌≤ℤ◌, sym, refl, ap, ◌∙◌, mul-le-mul_right, zero-mul, div-le_self, arith, w16, w32, SFits, to_z, of_z}
+use Rattle.std.proofs.Common.{◌≡◌, ℕ, zero, suc, ◌-◌, ◌*◌, ◌/◌, ◌<◌, ◌≤◌, ℤ, pos, negsuc, ◌*ℤ◌, neg_ℤ, ◌≤ℤ◌, sym, refl, ap, ◌∙◌, mul-le-mul_right, zero-mul, div-le_self, arith, w16, w32, SFits, to_z, of_z}
 use native.Mathlib.Nat.{zero-div}
 use lib.IntN.{neg_ℤ-neg_ℤ}
 use lib.Signed.{mag, quot_z}
-use Rattle.std.specs.Int.{int_max, int_min}
 use Rattle.std.proofs.lemmas.Nat.{le-div, div-add-mod', mul-le}
 use Rattle.std.proofs.lemmas.Int.{ints, clamps, to_z-of_z}
 use Rattle.drive.specs.Speed.{full, full_back, held, InRange}
-use Rattle.control.specs.Scale.{Fair, scaled_speed, shown_speed, ScalesToSpeed, ScalesToWord}
+use Rattle.control.specs.Scale.{Fair, shown_speed, ScalesToSpeed, ScalesToWord}
 
 module _ (a b : ℕ) (some : 0 < b) where
   abbrev ratio : ℤ → ℤ

@@ -4,9 +4,8 @@ use mathlib.Core.Bool.{beq}
 use Rattle.control.specs.ControlWord.{on, no_coast_stop, no_quick_stop, enable_operation}
 use Rattle.control.specs.DriveState.{state_number, is_inhibited, is_operating, is_fault}
 use Rattle.control.specs.Step.{step_by, one_step, steps, stepped}
-use Rattle.control.specs.StepLaws.{run_word, release_word, StandsStill, OperatingOnlyByRunWord, ReleasedOnlyByReleaseWord, FaultStays}
+use Rattle.control.specs.StepLaws.{StandsStill, OperatingOnlyByRunWord, ReleasedOnlyByReleaseWord, FaultStays}
 use Rattle.control.specs.declared.drive_state.DriveState.{DriveState}
-use Rattle.control.specs.declared.drive_state.DriveState.TheVariants.{Inhibited, ReadyOn, ReadyRun, Operating, Off1Active, Off3Active, Fault}
 use Rattle.control.proofs.Tables.{every_four, at_four, every_state, at_state, by_number, beq_is}
 
 -- a test of states and bits holds everywhere

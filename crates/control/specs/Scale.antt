@@ -1,5 +1,5 @@
 -- Speeds as words of the process data, and back. Assumes nothing.
-use Rattle.std.specs.Prelude.{◌≡◌, ℕ, ℤ, pos, negsuc, ◌*ℤ◌, neg_ℤ, ◌≤ℤ◌, int_div}
+use Rattle.std.specs.Prelude.{◌≡◌, ℤ, pos, ◌*ℤ◌, neg_ℤ, ◌≤ℤ◌, int_div}
 use Rattle.drive.specs.Speed.{full, held, InRange}
 
 -- the word that means full speed: 4000h

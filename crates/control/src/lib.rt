@@ -5,17 +5,17 @@
 mod command;
 mod control_word;
 mod drive_state;
-mod reference;
+mod references;
 mod scale;
-mod settle;
+mod settling;
 mod status_word;
-mod step;
+mod transitions;
 
 pub use command::command_for;
 pub use control_word::ControlWord;
 pub use drive_state::DriveState;
-pub use reference::reference;
+pub use references::reference;
 pub use scale::{scaled_speed, shown_speed};
-pub use settle::{leave, settle};
+pub use settling::{leave, settle};
 pub use status_word::{Status, StatusWord};
-pub use step::{Stepped, step};
+pub use transitions::{Stepped, step};

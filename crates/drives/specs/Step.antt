@@ -1,5 +1,5 @@
 -- What a step makes of any drive. Assumes nothing.
-use Rattle.std.specs.Prelude.{◌≡◌, Ok, Err, Result}
+use Rattle.std.specs.Prelude.{◌≡◌, Ok, Result}
 use Rattle.drive.specs.Command.{command_of}
 use Rattle.drive.specs.Meaning.{Meaning, with_command, change_answer, changed, Ticked, Reset as OnlyFault}
 use Rattle.drive.specs.declared.error.ChangeError.{ChangeError}

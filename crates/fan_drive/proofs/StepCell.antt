@@ -1,5 +1,5 @@
 -- The fan's one cell takes a value. Assumes nothing.
-use Rattle.std.proofs.Common.{◌≡◌, ℕ, ◌≤◌, T, ℤ, pos, negsuc, nat_abs, ◌≤ℤ◌, Some, None, refl, ap, ◌∙◌, subst, arith, w16, Fits}
+use Rattle.std.proofs.Common.{◌≡◌, ℕ, ◌≤◌, T, ℤ, pos, negsuc, nat_abs, ◌≤ℤ◌, Some, refl, subst, arith, w16, Fits}
 use lib.Signed.{non_neg}
 use Rattle.std.proofs.lemmas.Int.{ints}
 use Rattle.std.proofs.lemmas.Bool.Decides.{nat_tests}

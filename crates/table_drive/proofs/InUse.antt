@@ -1,5 +1,5 @@
 -- The cells in use are those of the accepted list. Assumes nothing.
-use Rattle.std.proofs.Common.{◌≡◌, ℕ, ◌<◌, Bool, true, false, cond, not, ◌&&◌, ◌||◌, eqb, List, [], ◌∷◌, length, get_or, is_ok, Some, None, Ok, Err, MatchBool, Option, Result, sym, refl, ap, ◌∙◌, subst, ⊎_elim, arith}
+use Rattle.std.proofs.Common.{◌≡◌, ℕ, ◌<◌, Bool, true, false, ◌&&◌, eqb, List, [], ◌∷◌, length, get_or, is_ok, Some, None, Ok, Err, Result, sym, refl, ap, ◌∙◌, ⊎_elim, arith}
 use Rattle.std.proofs.lemmas.Bool.{cond-true, cond-false, cases_Bool, and_parts, and_from, eq-eqb}
 use Rattle.std.proofs.lemmas.Bool.Decides.{nat_tests}
 use Rattle.std.specs.Ordering.{is_eq}
@@ -9,10 +9,9 @@ use Rattle.drive.specs.declared.cell.Cell.{Cell}
 use Rattle.table_drive.specs.Acceptance.{acceptance, cells_rise, all_sound}
 use Rattle.table_drive.specs.Key.{key, key_of, by_key}
 use Rattle.table_drive.specs.Laws.{FindsItsCellsAndNothingElse, NothingElseFound}
-use Rattle.table_drive.specs.Order.{found}
 use Rattle.table_drive.specs.Table.{cells_in_use, cells_of, cells_after, Placed}
 use Rattle.table_drive.specs.declared.refusal.ListRefusal.{ListRefusal}
-use Rattle.table_drive.proofs.Ascending.{Ascending, ascends}
+use Rattle.table_drive.proofs.Ascending.{ascends}
 use Rattle.table_drive.proofs.Finding.{eq_equal, in_list, found_none, found_at}
 use Rattle.table_drive.proofs.KeyOrder.{trans, itself, same}
 

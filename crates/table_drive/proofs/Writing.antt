@@ -1,16 +1,15 @@
 -- One record of a list takes a value. Assumes nothing.
-use Rattle.std.proofs.Common.{◌≡◌, ℕ, zero, suc, ◌<◌, Bool, true, false, cond, ◌&&◌, eqb, List, [], ◌∷◌, length, get_or, set, ℤ, ◌≤ℤ◌, Some, None, Option, sym, refl, ap, ◌∙◌, subst, ⊎_elim, arith}
+use Rattle.std.proofs.Common.{◌≡◌, ℕ, zero, suc, ◌<◌, Bool, true, false, cond, ◌&&◌, eqb, List, [], ◌∷◌, length, get_or, set, ℤ, ◌≤ℤ◌, Some, None, Option, sym, refl, ap, ◌∙◌, ⊎_elim, arith}
 use lib.Signed.{le_z}
 use Rattle.std.proofs.lemmas.Int.{ints}
 use Rattle.std.proofs.lemmas.Bool.{and_parts, and_from, cond-true, cond-false, cases_Bool}
 use Rattle.std.proofs.lemmas.Bool.Decides.{nat_tests}
-use Rattle.std.specs.Ordering.{is_eq, is_lt}
+use Rattle.std.specs.Ordering.{is_eq}
 use Rattle.drive.specs.Cell.{is_sound, has_valid_key, limits_within_width, value_within_limits, with_value}
 use Rattle.drive.specs.Meaning.{put, taken}
 use Rattle.drive.specs.declared.cell.Cell.{Cell}
 use Rattle.table_drive.specs.Acceptance.{cells_rise, all_sound}
 use Rattle.table_drive.specs.Key.{key, key_of, by_key}
-use Rattle.table_drive.specs.Order.{found}
 use Rattle.table_drive.specs.Table.{cells_of, cells_in_use, put_value}
 use Rattle.table_drive.specs.declared.key.Key.{Key}
 use Rattle.table_drive.proofs.Ascending.{first_below, rest_rises}

@@ -1,5 +1,5 @@
 -- What a table drive means, and what becomes of it and of its list. Assumes nothing.
-use Rattle.std.specs.Prelude.{◌≡◌, ℕ, min, max, Bool, cond, List, [], ◌∷◌, ℤ, pos, Some, None, Ok, Err, MatchBool, Option, Result}
+use Rattle.std.specs.Prelude.{◌≡◌, ℕ, min, max, Bool, cond, List, [], ◌∷◌, ℤ, pos, None, Ok, Err, MatchBool, Option, Result}
 use Rattle.std.specs.Ordering.{is_eq}
 use Rattle.drive.specs.Cell.{with_value}
 use Rattle.drive.specs.Command.{off, command_of, target}

@@ -1,6 +1,5 @@
-use Rattle.std.proofs.Common.{ap, ◌∙◌, arith, w16}
+use Rattle.std.proofs.Common.{◌∙◌, arith, w16}
 use Rattle.std.proofs.lemmas.Int.{to_z-of_z}
-use Rattle.drive.specs.Speed.{held}
 use Rattle.control.proofs.Ratios.{scales_to_speed, computed_is}
 use Rattle.control.proofs.scale.scaled_speed.Goals as goal
 

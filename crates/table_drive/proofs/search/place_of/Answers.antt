@@ -1,4 +1,4 @@
-use Rattle.std.proofs.Common.{◌≡◌, ◌+◌, ◌-◌, ◌/◌, ◌<◌, ◌≤◌, length, arith}
+use Rattle.std.proofs.Common.{◌+◌, ◌-◌, ◌/◌, ◌<◌, length, arith}
 use Rattle.table_drive.specs.Key.{by_key, key_of}
 use Rattle.table_drive.proofs.Ascending.{ascends}
 use Rattle.table_drive.proofs.Bisection.{up, down, absent}

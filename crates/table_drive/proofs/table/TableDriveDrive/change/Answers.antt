@@ -3,7 +3,7 @@ use Rattle.std.proofs.lemmas.Int.{to_z-of_z}
 use Rattle.drive.proofs.Change.{answered, accepted, accepted_leaves, not_found, refused_same, refused_leaves}
 use Rattle.table_drive.specs.Acceptance.{cells_rise, all_sound}
 use Rattle.table_drive.specs.Key.{key}
-use Rattle.table_drive.specs.Table.{table_meaning, cells_in_use, put_value, list_after}
+use Rattle.table_drive.specs.Table.{table_meaning, put_value, list_after}
 use Rattle.table_drive.proofs.InUse.{placed_none, placed_some}
 use Rattle.table_drive.proofs.Writing.{rises_set, sound_set, list_written, cells_written}
 use Rattle.table_drive.proofs.table.TableDriveDrive.change.Goals as goal

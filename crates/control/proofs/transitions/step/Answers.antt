@@ -1,6 +1,6 @@
 use Rattle.std.proofs.Common.{refl}
 use Rattle.control.proofs.Stepping.{stands_still, operating_only_by_run_word, released_only_by_release_word, fault_stays}
-use Rattle.control.proofs.step.step.Goals as goal
+use Rattle.control.proofs.transitions.step.Goals as goal
 
 pub returns : goal.returns
 returns c = rw c.steps.ensures (record {

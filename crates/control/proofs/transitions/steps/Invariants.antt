@@ -1,7 +1,7 @@
 use Rattle.std.proofs.Common.{◌≡◌}
 use Rattle.control.specs.Step.{stepped}
 use Rattle.control.proofs.Stepping.{left}
-use Rattle.control.proofs.step.steps.Given as goal
+use Rattle.control.proofs.transitions.steps.Given as goal
 
 abbrev pub invariant-loop-word : goal.invariant-loop-word
 invariant-loop-word l = stepped l.word.0 l.now ≡ stepped l.word.0 l.initial.now
