@@ -1,12 +1,12 @@
 -- What a cell list and its drive owe the list's owner. Assumes nothing.
-use Rattle.std.specs.Prelude.{◌≡◌, ℕ, ◌<◌, List, length, get_or, Some, None, Ok, Err, Result, slice_index_or}
+use Rattle.std.specs.Prelude.{◌≡◌, ℕ, ◌<◌, List, length, Some, None, Ok, Err, Result, slice_index_or}
 use Rattle.drive.specs.Meaning.{Cells}
 use Rattle.drive.specs.declared.cell.Cell.{Cell}
 use Rattle.table_drive.specs.declared.refusal.ListRefusal.{ListRefusal}
 
 -- each cell of the list is found under its group and number
 abbrev pub EveryCellFound : List Cell → Cells → Type 0
-EveryCellFound list cells = (i : ℕ) (d : Cell) → i < length list → cells (get_or list i d).group (get_or list i d).number ≡ Some (slice_index_or list i d)
+EveryCellFound list cells = (i : ℕ) (d : Cell) → i < length list → cells (slice_index_or list i d).group (slice_index_or list i d).number ≡ Some (slice_index_or list i d)
 
 -- whatever is found is a cell of the list, under its group and number
 abbrev pub NothingElseFound : List Cell → Cells → Type 0
