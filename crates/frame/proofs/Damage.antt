@@ -1,11 +1,12 @@
 -- An accepted telegram in which one byte was changed is refused. Assumes nothing.
-use Rattle.std.proofs.Common.{◌≡◌, ℕ, ◌+◌, ◌-◌, ◌<◌, ◌≤◌, Bool, true, false, cond, ◌⊎◌, List, length, get_or, take, drop, set, Ok, Err, Result, sym, refl, ap, ◌∙◌, inl, inr, ⊎_elim, arith}
+use Rattle.std.proofs.Common.{◌≡◌, ℕ, ◌+◌, ◌-◌, ◌<◌, ◌≤◌, cond, ◌⊎◌, List, length, get_or, take, drop, set, Ok, Err, Result, sym, ap, ◌∙◌, ⊎_elim, arith}
 use lib.Seq.{take-set-lt}
 use Rattle.std.specs.List.{between}
 use Rattle.std.proofs.lemmas.List.{length-set, get_or-set_same, get_or-set_other, take-set-le, drop-set-add}
 use Rattle.std.proofs.lemmas.List.Edits.{length-between, get_or-between}
 use Rattle.std.proofs.lemmas.List.Sums.{sum_by-set}
-use Rattle.std.proofs.lemmas.Bool.{cond-true, cond-false, ne_eqb, le-leb, lt-leb, and_from, and_left, and_right, cases_lt}
+use Rattle.std.proofs.lemmas.Bool.{false_from_ne_true, cond-true, cond-false, ne_eqb, cases_lt}
+use Rattle.std.proofs.lemmas.Bool.Decides.{nat_tests}
 use Rattle.frame.specs.Check.{check_byte}
 use Rattle.frame.specs.Telegram.{Fields}
 use Rattle.frame.specs.Reader.{reading, checked, is_long, is_short}
@@ -15,12 +16,8 @@ use Rattle.frame.specs.declared.refusal.Refusal.TheVariants.{NoLayout, WrongChec
 use Rattle.frame.proofs.Shape.{Long, Short, long_facts, short_facts, long_test, short_test, long_not_short}
 use Rattle.frame.proofs.Exact.{Way, short, long, way}
 
-refuted : (b : Bool) → (b ≡ true → ⊥) → b ≡ false
-refuted true h = absurd (h refl)
-refuted false h = refl
-
 no_layout : (xs : List ℕ) → (Short xs → ⊥) → (Long xs → ⊥) → reading xs ≡ Err NoLayout
-no_layout xs s l = cond-false _ _ _ (refuted (is_short xs) (λ t. s (short_facts xs t))) ∙ cond-false _ _ _ (refuted (is_long xs) (λ t. l (long_facts xs t)))
+no_layout xs s l = cond-false _ _ _ (false_from_ne_true (is_short xs) (λ t. s (short_facts xs t))) ∙ cond-false _ _ _ (false_from_ne_true (is_long xs) (λ t. l (long_facts xs t)))
 
 module _ (bytes : List ℕ) (k v : ℕ) (within : k < length bytes) (byte : get_or bytes k 0 < 256) (small : v < 256) (other : v ≡ get_or bytes k 0 → ⊥) where
   abbrev changed : List ℕ
@@ -105,15 +102,7 @@ module _ (bytes : List ℕ) (k v : ℕ) (within : k < length bytes) (byte : get_
 
   -- what is shown of each byte, under the name that the law has for it
   by_place : (f : Fields) (r : Result Fields Refusal) → ((f.place ≤ k + 3) → (k + 2 ≤ length bytes) → r ≡ Err WrongCheckByte) → ((k + 3 < f.place) ⊎ (length bytes < k + 2) → r ≡ Err NoLayout) → r ≡ Err (cond (summed_or_check_byte bytes f k) WrongCheckByte NoLayout)
-  by_place f r guarded bare =
-      ⊎_elim
-      (λ (low : k + 3 < f.place). bare (inl low) ∙ ap Err (sym (cond-false _ _ _ (and_left _ _ (lt-leb f.place (k + 3) low)))))
-      (λ (from : f.place ≤ k + 3).
-      ⊎_elim
-      (λ (past : length bytes < k + 2). bare (inr past) ∙ ap Err (sym (cond-false _ _ _ (and_right _ _ (lt-leb (k + 2) (length bytes) past)))))
-      (λ (upto : k + 2 ≤ length bytes). guarded from upto ∙ ap Err (sym (cond-true _ _ _ (and_from _ _ (le-leb f.place (k + 3) from) (le-leb (k + 2) (length bytes) upto)))))
-      (cases_lt (length bytes) (k + 2)))
-      (cases_lt (k + 3) f.place)
+  by_place f r guarded bare = grind (arith, nat_tests)
 
   damaged : (f : Fields) → Way bytes f → reading changed ≡ Err (cond (summed_or_check_byte bytes f k) WrongCheckByte NoLayout)
   damaged f (short s c e) =
@@ -122,7 +111,7 @@ module _ (bytes : List ℕ) (k v : ℕ) (within : k < length bytes) (byte : get_
       (λ from upto.
       cond-true _ _ _ (short_test changed (short_kept s (omega arith) (omega (arith, s.size))))
       ∙ refused 1 4 (omega arith) (omega (arith, s.size)) c (omega (arith, s.size)))
-      (λ at. short_lost s (⊎_elim (λ (low : k + 3 < f.place). inl (omega arith)) (λ (past : length bytes < k + 2). inr (omega (arith, s.size))) at))
+      (λ at. short_lost s (grind (arith, s.size)))
   damaged f (long l c e) =
       let place : f.place ≡ 7 = ap (λ g. g.place) e in
       by_place f (reading changed)
@@ -133,7 +122,7 @@ module _ (bytes : List ℕ) (k v : ℕ) (within : k < length bytes) (byte : get_
       ∙ cond-true _ _ _ (long_test changed kept)
       ∙ ap (λ n. checked changed 4 (n + 4)) le
       ∙ refused 4 (get_or bytes 1 0 + 4) (omega arith) (omega (arith, l.size)) c (omega (arith, l.size)))
-      (λ at. long_lost l (⊎_elim (λ (low : k + 3 < f.place). inl (omega arith)) (λ (past : length bytes < k + 2). inr (omega (arith, l.size))) at))
+      (λ at. long_lost l (grind (arith, l.size)))
 
 pub changed_refused : (bytes : List ℕ) (r : Result Fields Refusal) → ((k : ℕ) → get_or bytes k 0 < 256) → r ≡ reading bytes → ChangedIsRefused bytes r
 changed_refused bytes (Ok f) bound e = λ k v within small other. damaged bytes k v within (bound k) small other f (way bytes f (sym e))

@@ -1,36 +1,23 @@
 -- The digits of bytes are read back as these bytes, and text is the digits of its bytes. Assumes nothing.
-use Rattle.std.proofs.Common.{◌≡◌, ℕ, zero, suc, ◌+◌, ◌*◌, ◌/◌, ◌%◌, ◌<◌, Bool, true, false, cond, ◌&&◌, eqb, ltb, List, [], ◌∷◌, ◌++◌, length, get_or, take, drop, Some, sym, refl, ap, ◌∙◌, subst, ⊎_elim, arith}
+use Rattle.std.proofs.Common.{◌≡◌, ℕ, suc, ◌+◌, ◌*◌, ◌/◌, ◌%◌, ◌<◌, true, false, cond, ◌&&◌, eqb, ltb, List, [], ◌∷◌, ◌++◌, length, get_or, take, drop, Some, sym, refl, ap, ◌∙◌, subst, ⊎_elim, arith}
 use Rattle.std.proofs.lemmas.List.{take_at}
 use Rattle.std.proofs.lemmas.Nat.{div-mul-add, mod-mul-add}
-use Rattle.std.proofs.lemmas.Bool.{and_parts, and_from, cond-true, cond-false, eq-eqb, eqb-true, ltb-true, cases_eq, cases_Bool}
+use Rattle.std.proofs.lemmas.Bool.{agree_below_at, and_parts, and_from, cond-true, cond-false, eq-eqb, eqb-true, ltb-true, cases_Bool}
 use Rattle.std.proofs.lemmas.Bool.Decides.{nat_tests}
 use Rattle.frame.specs.Hex.{digit_of, digits_of, is_digit, value_of, all_digits, is_hex, bytes_of, read_as, TextIsItsDigits}
 use Rattle.frame.proofs.Digits.{length_digits}
 
--- a test that holds of each number below n
-abbrev every : (ℕ → Bool) → ℕ → Bool
-every f zero = true
-every f (suc n) = f n && every f n
-
-every_at : (f : ℕ → Bool) (n : ℕ) → every f n ≡ true → (k : ℕ) → k < n → f k ≡ true
-every_at f zero e k h = absurd (omega arith)
-every_at f (suc n) e k h =
-    ⊎_elim
-    (λ (at : k ≡ n). ap f at ∙ (and_parts (f n) (every f n) e).0)
-    (λ (ne : k ≡ n → ⊥). every_at f n (and_parts (f n) (every f n) e).1 k (omega arith))
-    (cases_eq k n)
-
 -- the sixteen digits: each is one, and has its value
 digit_value : (v : ℕ) → v < 16 → (is_digit (digit_of v) ≡ true) × (value_of (digit_of v) ≡ v)
 digit_value v h =
-    let p = and_parts _ _ (every_at (λ k. is_digit (digit_of k) && eqb (value_of (digit_of k)) k) 16 refl v h) in
+    let p = and_parts _ _ (agree_below_at (λ k. is_digit (digit_of k) && eqb (value_of (digit_of k)) k) (λ _. true) 16 v refl h) in
     (p.0, eqb-true _ _ p.1)
 
 -- each digit is the one of its value
 value_digit : (c : ℕ) → is_digit c ≡ true → (digit_of (value_of c) ≡ c) × (value_of c < 16)
 value_digit c e =
     let below : c < 71 = grind (arith, nat_tests) in
-    let p = and_parts _ _ (sym (cond-true (is_digit c) _ _ e) ∙ every_at (λ k. cond (is_digit k) (eqb (digit_of (value_of k)) k && ltb (value_of k) 16) true) 71 refl c below) in
+    let p = and_parts _ _ (sym (cond-true (is_digit c) _ _ e) ∙ agree_below_at (λ k. cond (is_digit k) (eqb (digit_of (value_of k)) k && ltb (value_of k) 16) true) (λ _. true) 71 c refl below) in
     (eqb-true _ _ p.0, ltb-true _ _ p.1)
 
 all_are_digits : (bs : List ℕ) → ((k : ℕ) → get_or bs k 0 < 256) → all_digits (digits_of bs) ≡ true

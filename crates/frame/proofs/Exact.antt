@@ -1,14 +1,14 @@
 -- What the reader accepts is exactly what the writer makes of its fields. Assumes nothing.
-use Rattle.std.proofs.Common.{◌≡◌, ℕ, ◌+◌, ◌≤◌, Bool, true, false, cond, ◌⊎◌, List, ◌++◌, length, get_or, drop, Ok, Err, Result, sym, refl, ap, ◌∙◌, inl, inr, ⊎_elim, arith}
+use Rattle.std.proofs.Common.{◌≡◌, ℕ, ◌+◌, ◌≤◌, Bool, true, cond, ◌⊎◌, List, length, get_or, Ok, Err, Result, sym, ap, ◌∙◌, ⊎_elim, arith}
 use Rattle.std.specs.List.{between}
 use Rattle.std.proofs.lemmas.Bool.{eqb-true}
+use Rattle.std.proofs.lemmas.Bool.Decides.{nat_tests}
 use Rattle.frame.specs.Check.{check_byte}
 use Rattle.frame.specs.Telegram.{Fields, fields_bytes}
 use Rattle.frame.specs.Reader.{reading, fields_from, is_long, is_short}
 use Rattle.frame.specs.Laws.{AcceptedIsWritten}
 use Rattle.frame.specs.declared.refusal.Refusal.{Refusal}
 use Rattle.frame.specs.declared.refusal.Refusal.TheVariants.{NoLayout, WrongCheckByte}
-use Rattle.frame.proofs.Put.{writing_ok, written_ok}
 use Rattle.frame.proofs.Shape.{Long, Short, long_facts, short_facts, short_bytes, long_bytes, data_length}
 
 -- how a telegram came to be accepted
@@ -16,15 +16,8 @@ pub data Way (bytes : List ℕ) (f : Fields) : Type 0 where
   short : Short bytes → check_byte (between 1 4 bytes) ≡ get_or bytes 4 0 → f ≡ fields_from bytes 1 4 → Way bytes f
   long : Long bytes → check_byte (between 4 (get_or bytes 1 0 + 4) bytes) ≡ get_or bytes (get_or bytes 1 0 + 4) 0 → f ≡ fields_from bytes 4 (get_or bytes 1 0 + 4) → Way bytes f
 
-clash : {f : Fields} {e : Refusal} {A : Type 0} → Err e ≡ Ok f → A
-clash h = let z : ◌≡◌ {A = ℕ} 0 1 = cc in absurd (omega arith)
-
 choose : (s l c d : Bool) (g h f : Fields) → cond s (cond c (Ok g) (Err WrongCheckByte)) (cond l (cond d (Ok h) (Err WrongCheckByte)) (Err NoLayout)) ≡ Ok f → ((s ≡ true) × (c ≡ true) × (f ≡ g)) ⊎ ((l ≡ true) × (d ≡ true) × (f ≡ h))
-choose true l true d g h f e = inl (refl, refl, cc)
-choose true l false d g h f e = clash e
-choose false true c true g h f e = inr (refl, refl, cc)
-choose false true c false g h f e = clash e
-choose false false c d g h f e = clash e
+choose s l c d g h f e = grind arith
 
 pub way : (bytes : List ℕ) (f : Fields) → reading bytes ≡ Ok f → Way bytes f
 way bytes f e =
@@ -39,8 +32,7 @@ same_bytes bytes f (short s c e) = (short_bytes bytes s c ∙ ap fields_bytes (s
 same_bytes bytes f (long l c e) = (long_bytes bytes l c ∙ ap fields_bytes (sym e), rw e (omega (arith, data_length bytes l)))
 
 by_fields : (bytes : List ℕ) (f : Fields) → bytes ≡ fields_bytes f → length f.«data» ≤ 246 → AcceptedIsWritten bytes (Ok f)
-by_fields bytes f e few buffer room =
-    (writing_ok _ _ _ _ _ room few ∙ ap (λ l. Ok (length l)) (sym e), written_ok _ _ _ _ buffer room few ∙ ap (λ l. l ++ drop (length l) buffer) (sym e))
+by_fields bytes f e few buffer room = (grind (arith, nat_tests), grind (arith, nat_tests))
 
 pub exact : (bytes : List ℕ) (r : Result Fields Refusal) → r ≡ reading bytes → AcceptedIsWritten bytes r
 exact bytes (Ok f) e = let p = same_bytes bytes f (way bytes f (sym e)) in by_fields bytes f p.0 p.1

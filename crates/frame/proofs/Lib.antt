@@ -4,5 +4,4 @@ pub mod Trip
 pub mod Exact
 pub mod Damage
 pub mod Digits
-pub mod Coding
 pub mod DigitsBack

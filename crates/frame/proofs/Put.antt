@@ -1,12 +1,14 @@
 -- What the writes of a long telegram come to. Assumes nothing.
-use Rattle.std.proofs.Common.{◌≡◌, ℕ, ◌+◌, ◌-◌, ◌<◌, ◌≤◌, List, [], ◌∷◌, ◌++◌, length, drop, Ok, sym, refl, ap, ◌∙◌, arith, length-append}
+use Rattle.std.proofs.Common.{◌≡◌, ℕ, ◌+◌, ◌-◌, ◌<◌, ◌≤◌, List, [], ◌∷◌, ◌++◌, length, drop, Ok, Err, sym, refl, ap, ◌∙◌, arith, rules, length-append}
 use borrow.Rule.Slice.PartMut.{put_mid, post_of}
+use Rattle.std.specs.Array.{IsFirstChunk}
 use Rattle.std.specs.List.{between}
-use Rattle.std.proofs.lemmas.List.{take_at, drop_at, drop-drop, append_assoc}
-use Rattle.std.proofs.lemmas.Bool.{cond-false, le-ltb}
+use Rattle.std.proofs.lemmas.List.{take_at, drop_at, drop-drop, append_assoc, drop-append-le, length-take-le, take-append-drop}
+use Rattle.std.proofs.lemmas.Slice.{overwrites}
+use Rattle.std.proofs.lemmas.Bool.Decides.{nat_tests}
 use Rattle.frame.specs.Check.{check_byte}
-use Rattle.frame.specs.Telegram.{telegram}
-use Rattle.frame.specs.Buffer.{put_by}
+use Rattle.frame.specs.Telegram.{Fields, fields_bytes, telegram}
+use Rattle.frame.specs.declared.refusal.Refusal.TheVariants.{DataTooLong}
 use Rattle.frame.specs.Writer.{PutDown, writing, written}
 
 -- the bytes before the data
@@ -32,9 +34,7 @@ module _ (out xs : List ℕ) (da sa fc : ℕ) where
   half = first ++ (xs ++ drop (n + 7) out)
 
   half_put : put_mid 7 ((n + 7) - 7) (first ++ post_of 0 7 out) xs ≡ half
-  half_put =
-      let k : 7 + ((n + 7) - 7) ≡ n + 7 = omega arith in
-      ap (λ l. first ++ (xs ++ l)) (drop-drop ((n + 7) - 7) 7 out ∙ ap (λ m. drop m out) k)
+  half_put = search (rules, overwrites)
 
   half_sum : between 4 (n + 7) half ≡ da ∷ sa ∷ fc ∷ xs
   half_sum = take_at (da ∷ sa ∷ fc ∷ xs) (drop (n + 7) out) ((n + 7) - 4) (omega arith)
@@ -62,14 +62,35 @@ module _ (out xs : List ℕ) (da sa fc : ℕ) where
       ∙ ap (λ t. (first ++ (xs ++ t ∷ 0x16 ∷ [])) ++ drop (n + 9) out) sum_is
       ∙ ap (λ l. l ++ drop (n + 9) out) (sym (long_telegram da sa fc xs h))
 
--- where nothing is refused
-pub writing_ok : (da sa fc : ℕ) (xs : List ℕ) (room : ℕ) → 255 ≤ room → length xs ≤ 246 → writing da sa fc xs room ≡ Ok (length (telegram da sa fc xs))
-writing_ok da sa fc xs room h k = cond-false _ _ _ (le-ltb _ _ h) ∙ cond-false _ _ _ (le-ltb _ _ k)
+-- a telegram with at most 246 data bytes has at most 255
+length_most : (da sa fc : ℕ) (xs : List ℕ) → length xs ≤ 246 → length (telegram da sa fc xs) ≤ 255
+length_most da sa fc [] few = omega arith
+length_most da sa fc (x ∷ xs) few = omega (arith, long_length da sa fc (x ∷ xs))
 
-pub written_ok : (da sa fc : ℕ) (xs buffer : List ℕ) → 255 ≤ length buffer → length xs ≤ 246 → written da sa fc xs buffer ≡ telegram da sa fc xs ++ drop (length (telegram da sa fc xs)) buffer
-written_ok da sa fc xs buffer h k = ap (λ a. put_by a (telegram da sa fc xs) buffer) (writing_ok da sa fc xs (length buffer) h k)
+-- the first bytes of a buffer, before the others, are the buffer
+pub room_and_rest : (buffer room : List ℕ) → IsFirstChunk buffer room 255 → room ++ drop 255 buffer ≡ buffer
+room_and_rest buffer room chunk = ap (λ l. l ++ drop 255 buffer) chunk.same ∙ take-append-drop 255 buffer
+
+-- what was put down in the first bytes of a buffer was put down in the buffer
+pub put_in_room : (f : Fields) (count : ℕ) (buffer room after : List ℕ) → length f.«data» ≤ 246 → IsFirstChunk buffer room 255 → PutDown f count room after → PutDown f count buffer (after ++ drop 255 buffer)
+put_in_room f count buffer room after few chunk p =
+    let most = length_most f.destination f.source f.function f.«data» few in
+    let size : length room ≡ 255 = ap length chunk.same ∙ length-take-le 255 buffer chunk.enough in
+    let within : count ≤ length room = rw p.count (omega (arith, most, size)) in
+    let past = drop-append-le count room (drop 255 buffer) within in
+    let whole = room_and_rest buffer room chunk in
+    record {
+      count = p.count;
+      bytes =
+          ap (λ l. l ++ drop 255 buffer) p.bytes
+          ∙ append_assoc (fields_bytes f) (drop count room) (drop 255 buffer)
+          ∙ ap (λ l. fields_bytes f ++ l) (sym past ∙ ap (drop count) whole);
+    }
 
 -- what the writer answers and leaves, from what was put down
-pub wrote : (da sa fc : ℕ) (xs buffer after : List ℕ) (n : ℕ) → 255 ≤ length buffer → length xs ≤ 246 → PutDown da sa fc xs n buffer after → (Ok n ≡ writing da sa fc xs (length buffer)) × (after ≡ written da sa fc xs buffer)
-wrote da sa fc xs buffer after n room few p =
-    (ap Ok p.count ∙ sym (writing_ok da sa fc xs (length buffer) room few), p.bytes ∙ ap (λ k. telegram da sa fc xs ++ drop k buffer) p.count ∙ sym (written_ok da sa fc xs buffer room few))
+pub wrote : (f : Fields) (buffer after : List ℕ) (n : ℕ) → 255 ≤ length buffer → length f.«data» ≤ 246 → PutDown f n buffer after → (Ok n ≡ writing f (length buffer)) × (after ≡ written f buffer)
+wrote f buffer after n room few p = (grind (arith, nat_tests), grind (arith, nat_tests))
+
+-- what the writer answers and leaves where the data are too long
+pub too_long : (f : Fields) (buffer after : List ℕ) → 255 ≤ length buffer → 246 < length f.«data» → after ≡ buffer → (Err DataTooLong ≡ writing f (length buffer)) × (after ≡ written f buffer)
+too_long f buffer after room many same = (grind (arith, nat_tests), grind (arith, nat_tests))

@@ -47,30 +47,20 @@ pub long_not_short : (bytes : List ℕ) → Long bytes → is_short bytes ≡ fa
 long_not_short bytes l = grind (arith, nat_tests)
 
 -- a list by its first elements
-six : (bytes : List ℕ) → length bytes ≡ 6 → bytes ≡ get_or bytes 0 0 ∷ get_or bytes 1 0 ∷ get_or bytes 2 0 ∷ get_or bytes 3 0 ∷ get_or bytes 4 0 ∷ get_or bytes 5 0 ∷ []
-six [] h = absurd (omega arith)
-six (a ∷ []) h = absurd (omega arith)
-six (a ∷ b ∷ []) h = absurd (omega arith)
-six (a ∷ b ∷ c ∷ []) h = absurd (omega arith)
-six (a ∷ b ∷ c ∷ d ∷ []) h = absurd (omega arith)
-six (a ∷ b ∷ c ∷ d ∷ e ∷ []) h = absurd (omega arith)
-six (a ∷ b ∷ c ∷ d ∷ e ∷ f ∷ []) h = refl
-six (a ∷ b ∷ c ∷ d ∷ e ∷ f ∷ g ∷ rest) h = absurd (omega arith)
-
-seven : (bytes : List ℕ) → 7 ≤ length bytes → bytes ≡ get_or bytes 0 0 ∷ get_or bytes 1 0 ∷ get_or bytes 2 0 ∷ get_or bytes 3 0 ∷ get_or bytes 4 0 ∷ get_or bytes 5 0 ∷ get_or bytes 6 0 ∷ drop 7 bytes
-seven [] h = absurd (omega arith)
-seven (a ∷ []) h = absurd (omega arith)
-seven (a ∷ b ∷ []) h = absurd (omega arith)
-seven (a ∷ b ∷ c ∷ []) h = absurd (omega arith)
-seven (a ∷ b ∷ c ∷ d ∷ []) h = absurd (omega arith)
-seven (a ∷ b ∷ c ∷ d ∷ e ∷ []) h = absurd (omega arith)
-seven (a ∷ b ∷ c ∷ d ∷ e ∷ f ∷ []) h = absurd (omega arith)
-seven (a ∷ b ∷ c ∷ d ∷ e ∷ f ∷ g ∷ rest) h = refl
+first_six : (bytes : List ℕ) → 6 ≤ length bytes → bytes ≡ get_or bytes 0 0 ∷ get_or bytes 1 0 ∷ get_or bytes 2 0 ∷ get_or bytes 3 0 ∷ get_or bytes 4 0 ∷ get_or bytes 5 0 ∷ drop 6 bytes
+first_six [] h = absurd (omega arith)
+first_six (a ∷ []) h = absurd (omega arith)
+first_six (a ∷ b ∷ []) h = absurd (omega arith)
+first_six (a ∷ b ∷ c ∷ []) h = absurd (omega arith)
+first_six (a ∷ b ∷ c ∷ d ∷ []) h = absurd (omega arith)
+first_six (a ∷ b ∷ c ∷ d ∷ e ∷ []) h = absurd (omega arith)
+first_six (a ∷ b ∷ c ∷ d ∷ e ∷ f ∷ rest) h = refl
 
 -- the bytes of a short telegram with the right FCS
 pub short_bytes : (bytes : List ℕ) → Short bytes → check_byte (between 1 4 bytes) ≡ get_or bytes 4 0 → bytes ≡ telegram (get_or bytes 1 0) (get_or bytes 2 0) (get_or bytes 3 0) (between 4 4 bytes)
 short_bytes bytes s e =
-    let u = six bytes s.size in
+    let u = first_six bytes (omega (arith, s.size)) in
+    let none : drop 6 bytes ≡ [] = drop_all 6 bytes (omega (arith, s.size)) in
     let sum : check_byte (get_or bytes 1 0 ∷ get_or bytes 2 0 ∷ get_or bytes 3 0 ∷ []) ≡ get_or bytes 4 0 = sym (ap (λ l. check_byte (between 1 4 l)) u) ∙ e in
     cc
 
@@ -96,7 +86,8 @@ module _ (bytes : List ℕ) (l : Long bytes) where
 
   pub long_bytes : check_byte (between 4 end bytes) ≡ get_or bytes end 0 → bytes ≡ telegram (get_or bytes 4 0) (get_or bytes 5 0) (get_or bytes 6 0) (between 7 end bytes)
   long_bytes e =
-      let u = seven bytes (omega arith) in
+      let u = first_six bytes (omega arith) in
+      let v : drop 6 bytes ≡ get_or bytes 6 0 ∷ drop 7 bytes = drop_more bytes 6 0 (omega arith) in
       let n : length (between 7 end bytes) + 3 ≡ get_or bytes 1 0 = omega (arith, data_length) in
       let whole : bytes ≡ head (get_or bytes 1 0) (get_or bytes 4 0) (get_or bytes 5 0) (get_or bytes 6 0) ++ (between 7 end bytes ++ get_or bytes end 0 ∷ 0x16 ∷ []) = let b = back in cc in
       let part : between 4 end bytes ≡ get_or bytes 4 0 ∷ get_or bytes 5 0 ∷ get_or bytes 6 0 ∷ between 7 end bytes =

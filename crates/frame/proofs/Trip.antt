@@ -3,8 +3,9 @@ use Rattle.std.proofs.Common.{◌≡◌, ℕ, ◌+◌, ◌-◌, ◌≤◌, eqb, 
 use Rattle.std.specs.List.{between}
 use Rattle.std.proofs.lemmas.List.{take_at, get_or_at, append_assoc}
 use Rattle.std.proofs.lemmas.Bool.{cond-true, cond-false, eq-eqb}
+use Rattle.std.proofs.lemmas.Bool.Decides.{nat_tests}
 use Rattle.frame.specs.Check.{check_byte}
-use Rattle.frame.specs.Telegram.{telegram, fields}
+use Rattle.frame.specs.Telegram.{Fields, fields, fields_bytes, telegram}
 use Rattle.frame.specs.Writer.{PutDown}
 use Rattle.frame.specs.Reader.{reading, is_long, is_short}
 use Rattle.frame.proofs.Shape.{Long, long_test, long_not_short}
@@ -56,9 +57,13 @@ module _ (da sa fc x : ℕ) (xs : List ℕ) (few : length (x ∷ xs) ≤ 246) wh
 
 -- the telegram of any fields with at most 246 data bytes is read as these fields
 pub trip : (da sa fc : ℕ) (xs : List ℕ) → length xs ≤ 246 → reading (telegram da sa fc xs) ≡ Ok (fields da sa fc xs)
-trip da sa fc [] h = cond-true (eqb (check_byte (da ∷ sa ∷ fc ∷ [])) (check_byte (da ∷ sa ∷ fc ∷ []))) _ _ (eq-eqb (check_byte (da ∷ sa ∷ fc ∷ [])) _ refl)
+trip da sa fc [] h = grind (arith, nat_tests)
 trip da sa fc (x ∷ xs) h = long_trip da sa fc x xs h
 
 -- what was put down is read back
-pub read_back : (da sa fc : ℕ) (xs buffer after : List ℕ) (n : ℕ) → length xs ≤ 246 → PutDown da sa fc xs n buffer after → reading (take n after) ≡ Ok (fields da sa fc xs)
-read_back da sa fc xs buffer after n few p = ap (λ l. reading (take n l)) p.bytes ∙ ap reading (take_at (telegram da sa fc xs) (drop n buffer) n (sym p.count)) ∙ trip da sa fc xs few
+pub read_back : (f : Fields) (buffer after : List ℕ) (n : ℕ) → f ≡ fields f.destination f.source f.function f.«data» → length f.«data» ≤ 246 → PutDown f n buffer after → reading (take n after) ≡ Ok f
+read_back f buffer after n whole few p =
+    ap (λ l. reading (take n l)) p.bytes
+    ∙ ap reading (take_at (fields_bytes f) (drop n buffer) n (sym p.count))
+    ∙ trip f.destination f.source f.function f.«data» few
+    ∙ ap Ok (sym whole)

@@ -1,8 +1,14 @@
 -- Upper-case hexadecimal text, as character codes. Assumes nothing.
-use Rattle.std.specs.Prelude.{◌≡◌, ℕ, ◌+◌, ◌-◌, ◌*◌, ◌/◌, ◌%◌, Bool, true, cond, ◌&&◌, ◌||◌, List, [], ◌∷◌, length, take, Some, None, Ok, Err, codes, Option, Result, ◌==◌, nat_le, nat_lt, slice_index}
+use Rattle.std.specs.Prelude.{◌≡◌, ℕ, ◌+◌, ◌-◌, ◌*◌, ◌/◌, ◌%◌, Bool, cond, ◌&&◌, ◌||◌, List, [], ◌∷◌, length, take, Some, None, Ok, Err, codes, Option, Result, ◌==◌, nat_le, nat_lt, slice_index}
+use Rattle.std.specs.List.{list_all}
 use Rattle.frame.specs.Buffer.{put_by}
 use Rattle.frame.specs.declared.hex.HexError.{HexError}
 use Rattle.frame.specs.declared.hex.HexError.TheVariants.{NotHex, NoRoom}
+
+-- the text under which a refused text is printed
+abbrev pub hex_error_text : HexError → List ℕ
+hex_error_text NotHex = codes "no even run of upper-case digits"
+hex_error_text NoRoom = codes "no room for the result"
 
 -- the digit with this value
 abbrev pub digit_of : ℕ → ℕ
@@ -23,8 +29,7 @@ value_of c = cond (nat_le c 57) (c - 48) ((c - 65) + 10)
 
 -- each character is a digit
 abbrev pub all_digits : List ℕ → Bool
-all_digits [] = true
-all_digits (c ∷ cs) = is_digit c && all_digits cs
+all_digits = list_all is_digit
 
 -- the bytes of pairs of digits
 abbrev pub bytes_of : List ℕ → List ℕ

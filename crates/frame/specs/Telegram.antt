@@ -1,11 +1,12 @@
 -- What a telegram says, and how its bytes lie. Assumes nothing.
-use Rattle.std.specs.Prelude.{ℕ, ◌+◌, Bool, cond, not, ◌||◌, List, [], ◌∷◌, ◌++◌, length, ◌==◌, bit_and}
+use Rattle.std.specs.Prelude.{ℕ, ◌+◌, Bool, cond, not, ◌||◌, List, [], ◌∷◌, ◌++◌, length, codes, ◌==◌, bit_and}
 use Rattle.frame.specs.Check.{check_byte}
 use Rattle.frame.specs.declared.telegram.Frame.{Frame}
 use Rattle.frame.specs.declared.telegram.Function.{Function}
 use Rattle.frame.specs.declared.telegram.Function.TheVariants.{SendAndReply, Status, OtherRequest, Reply}
 use Rattle.frame.specs.declared.telegram.Kind.{Kind}
 use Rattle.frame.specs.declared.telegram.Kind.TheVariants.{Short, Long}
+use Rattle.frame.specs.declared.telegram.Telegram.{Telegram}
 
 -- whether a byte has the bit of this mask set
 abbrev pub is_set : ℕ → ℕ → Bool
@@ -30,6 +31,18 @@ request_of code = cond (code == 12 || code == 13) SendAndReply (cond (code == 9)
 -- what FC asks for
 abbrev pub function_of : ℕ → Function
 function_of function = cond (request_bit function) (request_of (bit_and function 0x0F)) Reply
+
+-- the words for what FC asks for
+abbrev pub function_text : Function → List ℕ
+function_text SendAndReply = codes "send and reply"
+function_text Status = codes "status"
+function_text OtherRequest = codes "other request"
+function_text Reply = codes "reply"
+
+-- the words for the two layouts
+abbrev pub kind_text : Kind → List ℕ
+kind_text Short = codes "short"
+kind_text Long = codes "long"
 
 -- the first byte of each layout
 abbrev pub start_byte : Kind → ℕ
@@ -68,14 +81,18 @@ data_place (x ∷ xs) = 7
 abbrev pub fields : ℕ → ℕ → ℕ → List ℕ → Fields
 fields da sa fc xs = record { destination = da; source = sa; function = fc; «data» = xs; place = data_place xs }
 
--- the fields that a frame carries
+-- the fields that are to be written
+abbrev pub telegram_fields : Telegram → Fields
+telegram_fields t = fields t.destination.0 t.source.0 t.function.0 t.«data».now
+
+-- the fields that were read
 abbrev pub fields_of : Frame → Fields
-fields_of f = record { destination = f.destination.0; source = f.source.0; function = f.function.0; «data» = f.«data».now; place = f.place }
+fields_of f = record (telegram_fields f.telegram) { place = f.place }
 
 -- the bytes of the telegram with these fields
 abbrev pub fields_bytes : Fields → List ℕ
 fields_bytes f = telegram f.destination f.source f.function f.«data»
 
--- the bytes of the telegram with a frame's fields
-abbrev pub frame_bytes : Frame → List ℕ
-frame_bytes f = fields_bytes (fields_of f)
+-- the bytes of the telegram that says this
+abbrev pub telegram_bytes : Telegram → List ℕ
+telegram_bytes t = fields_bytes (telegram_fields t)

@@ -6,9 +6,5 @@ ghost use Rattle.frame.specs.Check.{check_byte};
 pub(crate) fn check_byte(bytes: &[u8]) -> u8
     ensures { result ≡ check_byte bytes.now }
 {
-    let mut sum = 0u8;
-    for b in bytes {
-        sum = sum.wrapping_add(*b);
-    }
-    sum
+    bytes.iter().fold(0u8, |sum, b| sum.wrapping_add(*b))
 }

@@ -1,6 +1,9 @@
 // Upper-case hexadecimal text: two digits a byte, the high one first.
-ghost use Rattle.std.specs.Prelude.{◌≡◌, ◌*◌, ◌/◌, ◌<◌, ◌≤◌, true, ◌++◌, length, drop};
-ghost use Rattle.frame.specs.Hex.{digit_of, digits_of, is_digit, value_of, all_digits, is_hex, bytes_of, read_as, encoding, encoded, decoding, decoded, DigitsAreReadBack, TextIsItsDigits};
+ghost use Rattle.std.specs.Prelude.{◌≡◌, ◌*◌, ◌/◌, ◌<◌, ◌≤◌, true, ◌++◌, length, drop, Some};
+ghost use Rattle.frame.specs.Hex.{hex_error_text, digit_of, digits_of, is_digit, value_of, all_digits, is_hex, bytes_of, read_as, encoding, encoded, decoding, decoded, DigitsAreReadBack, TextIsItsDigits};
+
+use std::error::Error;
+use std::fmt;
 
 // Why text or bytes are refused.
 #[derive(Clone, Copy, Debug, PartialEq, Eq)]
@@ -11,6 +14,19 @@ pub enum HexError {
     NoRoom,
 }
 
+impl fmt::Display for HexError {
+    ghost output = { λ e. Some (hex_error_text e) };
+
+    fn fmt<W: fmt::Write>(&self, f: &mut fmt::Formatter<W>) -> fmt::Result {
+        f.pad(match self {
+            Self::NotHex => "no even run of upper-case digits",
+            Self::NoRoom => "no room for the result",
+        })
+    }
+}
+
+impl Error for HexError {}
+
 // The digits in the order of their values.
 const DIGITS: &[u8; 16] = b"0123456789ABCDEF";
 
@@ -19,7 +35,7 @@ fn digit(value: u8) -> u8
     requires { value < 16 }
     ensures { result ≡ digit_of value }
 {
-    DIGITS[value as usize]
+    DIGITS[usize::from(value)]
 }
 
 // Whether a character is an upper-case digit.
@@ -46,12 +62,7 @@ fn value(digit: u8) -> u8
 fn all_digits(text: &[u8]) -> bool
     ensures { result ≡ all_digits text.now }
 {
-    for c in text {
-        if !is_digit(*c) {
-            return false;
-        }
-    }
-    true
+    text.iter().all(|c| is_digit(*c))
 }
 
 // Whether the text is an even run of digits.
@@ -62,6 +73,7 @@ fn is_hex(text: &[u8]) -> bool
 }
 
 // Writes two digits for each byte, the high one first.
+// By index: tried, and the proof does not close, as nothing is known of what chunks_exact_mut or as_chunks_mut writes, nor after a loop that moves on by split_at_mut.
 fn put_digits(bytes: &[u8], text: &mut [u8])
     requires { 2 * length bytes.now ≤ length text.old }
     ensures { text.new ≡ digits_of bytes.now ++ drop (2 * length bytes.now) text.old }
@@ -73,12 +85,14 @@ fn put_digits(bytes: &[u8], text: &mut [u8])
 }
 
 // Writes a byte for each two digits.
+// The bytes by index: tried, and the proof does not close, as nothing is known of what iter_mut writes under zip.
 fn put_bytes(text: &[u8], bytes: &mut [u8])
     requires { (all_digits text.now ≡ true) × (length text.now / 2 ≤ length bytes.old) }
     ensures { bytes.new ≡ bytes_of text.now ++ drop (length text.now / 2) bytes.old }
 {
-    for i in 0..text.len() / 2 {
-        bytes[i] = value(text[2 * i]) * 16 + value(text[2 * i + 1]);
+    let (pairs, _) = text.as_chunks::<2>();
+    for (i, [high, low]) in pairs.iter().enumerate() {
+        bytes[i] = value(*high) * 16 + value(*low);
     }
 }
 

@@ -11,5 +11,5 @@ mod writer;
 
 pub use reader::read;
 pub use refusal::Refusal;
-pub use telegram::{Address, Frame, Function, FunctionCode, Kind};
+pub use telegram::{Address, Frame, Function, FunctionCode, Kind, Telegram};
 pub use writer::{MOST_DATA, ROOM, write};

@@ -5,7 +5,7 @@ ghost use Rattle.frame.specs.Reader.{is_short, is_long, checked, reading, outcom
 
 use crate::check::check_byte;
 use crate::refusal::Refusal;
-use crate::telegram::{Address, END, Frame, FunctionCode, LONG_START, SHORT_START};
+use crate::telegram::{Address, END, Frame, FunctionCode, LONG_START, SHORT_START, Telegram};
 
 // What a long telegram has besides the bytes that LE counts.
 const AROUND: usize = 6;
@@ -30,7 +30,7 @@ fn is_long(bytes: &[u8]) -> bool
     if bytes.len() < LEAST_LE + AROUND {
         return false;
     }
-    let le = bytes[1] as usize;
+    let le = usize::from(bytes[1]);
     bytes[0] == LONG_START
         && bytes[2] == bytes[1]
         && bytes[3] == LONG_START
@@ -48,10 +48,12 @@ fn fields(bytes: &[u8], start: usize, end: usize) -> Result<Frame<'_>, Refusal>
         return Err(Refusal::WrongCheckByte);
     }
     Ok(Frame {
-        destination: Address(bytes[start]),
-        source: Address(bytes[start + 1]),
-        function: FunctionCode(bytes[start + 2]),
-        data: &bytes[start + 3..end],
+        telegram: Telegram {
+            destination: Address(bytes[start]),
+            source: Address(bytes[start + 1]),
+            function: FunctionCode(bytes[start + 2]),
+            data: &bytes[start + 3..end],
+        },
         place: start + 3,
     })
 }
@@ -65,7 +67,7 @@ pub fn read(bytes: &[u8]) -> Result<Frame<'_>, Refusal>
     if is_short(bytes) {
         fields(bytes, 1, 4)
     } else if is_long(bytes) {
-        fields(bytes, 4, bytes[1] as usize + 4)
+        fields(bytes, 4, usize::from(bytes[1]) + 4)
     } else {
         Err(Refusal::NoLayout)
     }

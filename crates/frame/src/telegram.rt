@@ -1,6 +1,9 @@
 // What a telegram says: who sends it to whom, what it asks for, and its data.
-ghost use Rattle.std.specs.Prelude.{◌≡◌, slice_index};
-ghost use Rattle.frame.specs.Telegram.{station_number, top_bit, function_of, start_byte, frame_bytes};
+ghost use Rattle.std.specs.Prelude.{◌≡◌, Some, slice_index};
+ghost use Rattle.std.specs.Fmt.{styled_text};
+ghost use Rattle.frame.specs.Telegram.{station_number, top_bit, function_of, function_text, kind_text, start_byte, telegram_bytes};
+
+use std::fmt;
 
 // The bytes that the two layouts begin with, and the one that both end with.
 pub(crate) const SHORT_START: u8 = 0x10;
@@ -58,6 +61,21 @@ impl FunctionCode {
     }
 }
 
+impl fmt::Display for Function {
+    ghost output = { λ function. Some (function_text function) };
+
+    ghost styled_output = { λ function style. Some (styled_text style (function_text function)) };
+
+    fn fmt<W: fmt::Write>(&self, f: &mut fmt::Formatter<W>) -> fmt::Result {
+        f.pad(match self {
+            Self::SendAndReply => "send and reply",
+            Self::Status => "status",
+            Self::OtherRequest => "other request",
+            Self::Reply => "reply",
+        })
+    }
+}
+
 // The two layouts, by their first byte.
 #[derive(Clone, Copy, Debug, PartialEq, Eq)]
 pub enum Kind {
@@ -65,20 +83,33 @@ pub enum Kind {
     Long,
 }
 
-// A telegram that was read: its fields by value, and its data where they lie in the bytes handed in, from `place` on.
+impl fmt::Display for Kind {
+    ghost output = { λ kind. Some (kind_text kind) };
+
+    ghost styled_output = { λ kind style. Some (styled_text style (kind_text kind)) };
+
+    fn fmt<W: fmt::Write>(&self, f: &mut fmt::Formatter<W>) -> fmt::Result {
+        f.pad(match self {
+            Self::Short => "short",
+            Self::Long => "long",
+        })
+    }
+}
+
+// What a telegram says: to whom, from whom, what it asks for, and its data.
+// Plain data with no Model, which would hide the fields from clauses.
 #[derive(Clone, Copy, Debug, PartialEq, Eq)]
-pub struct Frame<'a> {
+pub struct Telegram<'a> {
     pub destination: Address,
     pub source: Address,
     pub function: FunctionCode,
     pub data: &'a [u8],
-    pub place: usize,
 }
 
-impl Frame<'_> {
+impl Telegram<'_> {
     // Which layout the telegram has: without data the short one, with data the long one.
     pub fn kind(&self) -> Kind
-        ensures { start_byte result ≡ slice_index (frame_bytes self.now) 0 }
+        ensures { start_byte result ≡ slice_index (telegram_bytes self.now) 0 }
     {
         if self.data.is_empty() {
             Kind::Short
@@ -86,4 +117,11 @@ impl Frame<'_> {
             Kind::Long
         }
     }
+}
+
+// A telegram that was read: its data lie in the bytes handed in, from `place` on.
+#[derive(Clone, Copy, Debug, PartialEq, Eq)]
+pub struct Frame<'a> {
+    pub telegram: Telegram<'a>,
+    pub place: usize,
 }

@@ -1,5 +1,7 @@
 // Telegrams read, and bytes that are none.
-use frame::{Address, Frame, Function, FunctionCode, Kind, Refusal, read};
+ghost use Rattle.std.specs.Prelude.{◌<◌};
+
+use frame::{Address, Frame, Function, FunctionCode, Kind, Refusal, Telegram, read};
 use std::process::Abort;
 use std::test::Fail;
 
@@ -7,27 +9,38 @@ fn accepted(rt: &impl Abort, bytes: &[u8], what: &str) {
     assert!(rt; read(bytes).is_ok(), "{what}");
 }
 
-fn no_layout(rt: &impl Abort, bytes: &[u8], what: &str) {
-    assert_eq!(rt; read(bytes).err(), Some(Refusal::NoLayout), "{what}");
+fn refused(rt: &impl Abort, bytes: &[u8], refusal: Refusal, what: &str) {
+    assert_eq!(rt; read(bytes).err(), Some(refusal), "{what}");
 }
 
-fn wrong_check_byte(rt: &impl Abort, bytes: &[u8], what: &str) {
-    assert_eq!(rt; read(bytes).err(), Some(Refusal::WrongCheckByte), "{what}");
+// The long layout with this LE, and zeros in between.
+fn zeros<const N: usize>(le: u8) -> [u8; N]
+    requires { 4 < N }
+{
+    let mut bytes = [0u8; N];
+    bytes[0] = 0x68;
+    bytes[1] = le;
+    bytes[2] = le;
+    bytes[3] = 0x68;
+    bytes[N - 1] = 0x16;
+    bytes
 }
 
 #[test]
 fn status_request(rt: HostRuntime) -> Result<(), Fail> {
     let frame = read(b"\x10\x03\x02\x49\x4e\x16")?;
     let expected = Frame {
-        destination: Address(3),
-        source: Address(2),
-        function: FunctionCode(0x49),
-        data: &[],
+        telegram: Telegram {
+            destination: Address(3),
+            source: Address(2),
+            function: FunctionCode(0x49),
+            data: &[],
+        },
         place: 4,
     };
     assert_eq!(rt; frame, expected);
-    assert_eq!(rt; frame.kind(), Kind::Short);
-    assert_eq!(rt; frame.function.function(), Function::Status);
+    assert_eq!(rt; frame.telegram.kind(), Kind::Short);
+    assert_eq!(rt; frame.telegram.function.function(), Function::Status);
     Ok(())
 }
 
@@ -35,26 +48,30 @@ fn status_request(rt: HostRuntime) -> Result<(), Fail> {
 fn data_exchange(rt: HostRuntime) -> Result<(), Fail> {
     let frame = read(b"\x68\x07\x07\x68\x03\x02\x5d\x04\x7e\x00\x00\xe4\x16")?;
     let expected = Frame {
-        destination: Address(3),
-        source: Address(2),
-        function: FunctionCode(0x5d),
-        data: &[0x04, 0x7e, 0x00, 0x00],
+        telegram: Telegram {
+            destination: Address(3),
+            source: Address(2),
+            function: FunctionCode(0x5d),
+            data: &[0x04, 0x7e, 0x00, 0x00],
+        },
         place: 7,
     };
     assert_eq!(rt; frame, expected);
-    assert_eq!(rt; frame.kind(), Kind::Long);
-    assert!(rt; !frame.destination.has_services() && !frame.source.has_services());
-    assert_eq!(rt; frame.function.function(), Function::SendAndReply);
+    assert_eq!(rt; frame.telegram.kind(), Kind::Long);
+    assert!(rt;
+        !frame.telegram.destination.has_services() && !frame.telegram.source.has_services()
+    );
+    assert_eq!(rt; frame.telegram.function.function(), Function::SendAndReply);
     Ok(())
 }
 
 #[test]
 fn configuration_with_service_bytes(rt: HostRuntime) -> Result<(), Fail> {
-    let frame = read(b"\x68\x06\x06\x68\x83\x82\x7d\x3e\x3e\xf1\xef\x16")?;
-    assert_eq!(rt; frame.destination.station(), 3);
-    assert_eq!(rt; frame.source.station(), 2);
-    assert!(rt; frame.destination.has_services() && frame.source.has_services());
-    assert!(rt; frame.data == [0x3e, 0x3e, 0xf1].as_slice());
+    let telegram = read(b"\x68\x06\x06\x68\x83\x82\x7d\x3e\x3e\xf1\xef\x16")?.telegram;
+    assert_eq!(rt; telegram.destination.station(), 3);
+    assert_eq!(rt; telegram.source.station(), 2);
+    assert!(rt; telegram.destination.has_services() && telegram.source.has_services());
+    assert!(rt; telegram.data == [0x3e, 0x3e, 0xf1].as_slice());
     Ok(())
 }
 
@@ -82,12 +99,32 @@ fn functions(rt: HostRuntime) {
 
 #[test]
 fn short_damaged(rt: HostRuntime) {
-    wrong_check_byte(&rt, b"\x10\x03\x02\x49\x4f\x16", "FCS");
-    wrong_check_byte(&rt, b"\x10\x02\x02\x49\x4e\x16", "DA");
-    wrong_check_byte(&rt, b"\x10\x03\x03\x49\x4e\x16", "SA");
-    wrong_check_byte(&rt, b"\x10\x03\x02\x48\x4e\x16", "FC");
-    no_layout(&rt, b"\x11\x03\x02\x49\x4e\x16", "start");
-    no_layout(&rt, b"\x10\x03\x02\x49\x4e\x17", "end");
+    refused(
+        &rt,
+        b"\x10\x03\x02\x49\x4f\x16",
+        Refusal::WrongCheckByte,
+        "FCS",
+    );
+    refused(
+        &rt,
+        b"\x10\x02\x02\x49\x4e\x16",
+        Refusal::WrongCheckByte,
+        "DA",
+    );
+    refused(
+        &rt,
+        b"\x10\x03\x03\x49\x4e\x16",
+        Refusal::WrongCheckByte,
+        "SA",
+    );
+    refused(
+        &rt,
+        b"\x10\x03\x02\x48\x4e\x16",
+        Refusal::WrongCheckByte,
+        "FC",
+    );
+    refused(&rt, b"\x11\x03\x02\x49\x4e\x16", Refusal::NoLayout, "start");
+    refused(&rt, b"\x10\x03\x02\x49\x4e\x17", Refusal::NoLayout, "end");
 }
 
 #[test]
@@ -97,61 +134,89 @@ fn long_damaged(rt: HostRuntime) {
         b"\x68\x05\x05\x68\x03\x02\x5d\x04\x7e\xe4\x16",
         "undamaged",
     );
-    wrong_check_byte(&rt, b"\x68\x05\x05\x68\x03\x02\x5d\x04\x7f\xe4\x16", "data");
-    wrong_check_byte(&rt, b"\x68\x05\x05\x68\x03\x02\x5d\x04\x7e\xe5\x16", "FCS");
-    no_layout(
+    refused(
+        &rt,
+        b"\x68\x05\x05\x68\x03\x02\x5d\x04\x7f\xe4\x16",
+        Refusal::WrongCheckByte,
+        "data",
+    );
+    refused(
+        &rt,
+        b"\x68\x05\x05\x68\x03\x02\x5d\x04\x7e\xe5\x16",
+        Refusal::WrongCheckByte,
+        "FCS",
+    );
+    refused(
         &rt,
         b"\x68\x05\x06\x68\x03\x02\x5d\x04\x7e\xe4\x16",
+        Refusal::NoLayout,
         "LE unlike",
     );
-    no_layout(
+    refused(
         &rt,
         b"\x68\x06\x06\x68\x03\x02\x5d\x04\x7e\xe4\x16",
+        Refusal::NoLayout,
         "LE too large",
     );
-    no_layout(
+    refused(
         &rt,
         b"\x68\x05\x05\x10\x03\x02\x5d\x04\x7e\xe4\x16",
+        Refusal::NoLayout,
         "second start",
     );
-    no_layout(&rt, b"\x68\x05\x05\x68\x03\x02\x5d\x04\x7e\xe4\x10", "end");
+    refused(
+        &rt,
+        b"\x68\x05\x05\x68\x03\x02\x5d\x04\x7e\xe4\x10",
+        Refusal::NoLayout,
+        "end",
+    );
 }
 
 #[test]
 fn too_many_or_too_few_bytes(rt: HostRuntime) {
-    no_layout(&rt, &[], "no byte");
-    no_layout(&rt, &[0x10], "one byte");
-    no_layout(&rt, &[0xe5], "the one-byte acknowledgement is no telegram");
-    no_layout(&rt, &[0x10, 0x03, 0x02, 0x49, 0x4e], "a byte short");
-    no_layout(&rt, b"\x10\x03\x02\x49\x4e\x16\x16", "a byte more");
-    no_layout(
+    refused(&rt, &[], Refusal::NoLayout, "no byte");
+    refused(&rt, &[0x10], Refusal::NoLayout, "one byte");
+    refused(
         &rt,
-        b"\x68\x05\x05\x68\x03\x02\x5d\x04\x7e\xe4",
+        &[0xe5],
+        Refusal::NoLayout,
+        "the one-byte acknowledgement is no telegram",
+    );
+    refused(
+        &rt,
+        &[0x10, 0x03, 0x02, 0x49, 0x4e],
+        Refusal::NoLayout,
         "a byte short",
     );
-    no_layout(
+    refused(
+        &rt,
+        b"\x10\x03\x02\x49\x4e\x16\x16",
+        Refusal::NoLayout,
+        "a byte more",
+    );
+    refused(
+        &rt,
+        b"\x68\x05\x05\x68\x03\x02\x5d\x04\x7e\xe4",
+        Refusal::NoLayout,
+        "a byte short",
+    );
+    refused(
         &rt,
         b"\x68\x05\x05\x68\x03\x02\x5d\x04\x7e\xe4\x16\x16",
+        Refusal::NoLayout,
         "a byte more",
     );
 }
 
 #[test]
 fn le_at_its_limits(rt: HostRuntime) {
-    no_layout(&rt, b"\x68\x03\x03\x68\x03\x02\x5d\x62\x16", "LE 3");
+    refused(
+        &rt,
+        b"\x68\x03\x03\x68\x03\x02\x5d\x62\x16",
+        Refusal::NoLayout,
+        "LE 3",
+    );
     accepted(&rt, b"\x68\x04\x04\x68\x03\x02\x5d\x00\x62\x16", "LE 4");
-    let mut longest = [0u8; 255];
-    longest[0] = 0x68;
-    longest[1] = 249;
-    longest[2] = 249;
-    longest[3] = 0x68;
-    longest[254] = 0x16;
-    accepted(&rt, &longest, "LE 249");
-    let mut longer = [0u8; 256];
-    longer[0] = 0x68;
-    longer[1] = 250;
-    longer[2] = 250;
-    longer[3] = 0x68;
-    longer[255] = 0x16;
-    no_layout(&rt, &longer, "LE 250");
+    accepted(&rt, &zeros::<255>(249), "LE 249");
+    refused(&rt, &zeros::<256>(250), Refusal::NoLayout, "LE 250");
 }

@@ -11,7 +11,7 @@ told_same : (xs ys : List ℕ) (r : Bool) → r ≡ pointwise nat_eq xs ys → x
 told_same xs ys true test is = refl
 told_same xs ys false test is = absurd (other_text xs ys test is)
 
-pub same : (bytes buffer after : List ℕ) (f : Fields) (n : ℕ) (r : Bool) → AcceptedIsWritten bytes (Ok f) → 255 ≤ length buffer → Ok n ≡ writing f.destination f.source f.function f.«data» (length buffer) → after ≡ written f.destination f.source f.function f.«data» buffer → r ≡ pointwise nat_eq (take (n - 0) after) bytes → r ≡ true
+pub same : (bytes buffer after : List ℕ) (f : Fields) (n : ℕ) (r : Bool) → AcceptedIsWritten bytes (Ok f) → 255 ≤ length buffer → Ok n ≡ writing f (length buffer) → after ≡ written f buffer → r ≡ pointwise nat_eq (take (n - 0) after) bytes → r ≡ true
 same bytes buffer after f n r law room answer holds test =
     let p = law buffer room in
     let ok = answer ∙ p.0 in

@@ -14,8 +14,6 @@ pub fn bytes_of(heap: Global, line: &[u8]) -> Result<Option<Vec<u8>>, AllocError
         return Ok(None);
     }
     let mut bytes = vec![in heap; 0u8; line.len() / 2]?;
-    match hex::decode(line, bytes.as_mut_slice()) {
-        Ok(_) => Ok(Some(bytes)),
-        Err(_) => Ok(None),
-    }
+    let decoded = hex::decode(line, bytes.as_mut_slice());
+    Ok(decoded.is_ok().then_some(bytes))
 }

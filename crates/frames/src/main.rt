@@ -16,7 +16,7 @@ fn show(rt: &HostRuntime, line: &[u8]) -> anyhow::Result<()> {
     };
     match decode(bytes.as_slice()) {
         Ok(telegram) => println!(rt; "{telegram}")?,
-        Err(refusal) => println!(rt; "!{}", refusal.number())?,
+        Err(refusal) => println!(rt; "!{}", u8::from(refusal))?,
     }
     Ok(())
 }

@@ -1,14 +1,15 @@
-use Rattle.std.proofs.Common.{◌<◌, length, ap, ◌∙◌, arith}
-use Rattle.std.proofs.lemmas.List.{take_all}
-use Rattle.std.proofs.lemmas.List.Sums.{sum_by_more}
-use Rattle.frame.specs.Check.{check_byte}
+use Rattle.std.proofs.Common.{rules, ◌≡◌, ℕ, ◌+◌, ◌<◌, ◌%◌, List, [], ◌∷◌, ◌∙◌, arith, fold, sum, lit<}
+use Rattle.std.proofs.lemmas.List.Sums.{sum_by-cons}
+use Rattle.std.proofs.Math.Nat.{mod-add-mod}
 use Rattle.frame.proofs.check.check_byte.Goals as goal
 
-pub loop-b-preserved : goal.loop-b-preserved
-loop-b-preserved c =
-    let h : c.loop-b.b-index < length c.args.bytes.now = omega arith in
-    let e = sum_by_more (λ x. x) c.args.bytes.now c.loop-b.b-index 0 h in
-    omega arith
+-- sums taken modulo 256 byte by byte come to the whole sum modulo 256
+fold_sum : (sum_before : ℕ) (bytes : List ℕ) → sum_before < 256 → fold (λ s b. (s + b) % 256) sum_before bytes ≡ (sum_before + sum bytes) % 256
+fold_sum s [] small = omega arith
+fold_sum s (b ∷ bytes) small =
+    fold_sum ((s + b) % 256) bytes (omega arith) ∙ omega (arith, mod-add-mod (s + b) 256 (sum bytes), sum_by-cons (λ x. x) b bytes)
 
 pub returns : goal.returns
-returns c = c.loop-b.invariant ∙ ap check_byte (take_all _ _ c.loop-b-test.false)
+returns c =
+    let folded : c.fold.result ≡ fold (λ s b. (s + b) % 256) 0 c.args.bytes.now = search rules in
+    folded ∙ fold_sum 0 c.args.bytes.now (lit< tt) ∙ omega arith

@@ -1,17 +1,17 @@
 use Rattle.std.proofs.Common.{◌≡◌, ◌/◌, length, ap, ◌∙◌, arith}
 use Rattle.frame.specs.Hex.{bytes_of}
-use Rattle.frame.proofs.Digits.{over, over_all, length_bytes, bytes_more, digit_at}
+use Rattle.frame.proofs.Digits.{over, over_all, length_bytes, pair_of_digits, bytes_more}
 use Rattle.frame.proofs.hex.put_bytes.Goals as goal
 
 pub value-requires : goal.value-requires
-value-requires c = digit_at c.args.text.now _ c.requires.0 (omega arith)
+value-requires c = (pair_of_digits c.args.text.now c.args.bytes.now _ c.as_chunks.ensures.front c.loop-i.i (omega arith) c.requires.0).0
 
 pub value-requires-in-loop-i : goal.value-requires-in-loop-i
-value-requires-in-loop-i c = digit_at c.args.text.now _ c.requires.0 (omega arith)
+value-requires-in-loop-i c = (pair_of_digits c.args.text.now c.args.bytes.now _ c.as_chunks.ensures.front c.loop-i.i (omega arith) c.requires.0).1
 
 pub loop-i-preserved : goal.loop-i-preserved
 loop-i-preserved c =
-    bytes_more c.args.text.now c.args.bytes.now c.loop-i.bytes c.loop-i.i _ _ (omega arith) c.requires.1 c.loop-i.invariant c.value.ensures.is c.value-in-loop-i.ensures.is
+    bytes_more c.args.text.now c.args.bytes.now _ c.as_chunks.ensures.front c.loop-i.i (omega arith) _ _ _ c.requires.1 c.loop-i.invariant c.value.ensures.is c.value-in-loop-i.ensures.is
 
 pub returns : goal.returns
 returns c =
