@@ -1,6 +1,7 @@
 -- What a bench drive means, when made and after a tick. Assumes nothing.
 use Rattle.std.specs.Prelude.{◌≡◌, ℕ, ◌≤◌, List, pos, Option}
 use Rattle.drive.specs.Command.{off, command_of, target}
+use Rattle.drive.specs.Fault.{fault_number}
 use Rattle.drive.specs.Meaning.{Meaning, moved, with_fault}
 use Rattle.drive.specs.declared.link.Link.TheVariants.{Good}
 use Rattle.bench_drive.specs.Cells.{bench_cells, first_values}
@@ -14,7 +15,7 @@ bench_meaning d = record {
   cells = bench_cells d.values;
   command = command_of d.command;
   speed = d.speed.value;
-  fault = d.fault;
+  fault = fault_number d.fault;
   link = d.link;
 }
 

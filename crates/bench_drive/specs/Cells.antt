@@ -1,5 +1,6 @@
 -- The cells of a bench drive, 12.01 to 12.08. Assumes nothing.
-use Rattle.std.specs.Prelude.{ℕ, ◌-◌, Bool, true, cond, not, ◌&&◌, List, [], ◌∷◌, replicate, ℤ, pos, negsuc, Some, None, Option, ◌==◌, nat_le, slice_index_or}
+use Rattle.std.specs.Prelude.{ℕ, ◌-◌, Bool, cond, not, ◌&&◌, List, replicate, ℤ, pos, negsuc, Some, None, Option, ◌==◌, nat_le, slice_index_or}
+use Rattle.std.specs.List.{list_all}
 use Rattle.drive.specs.Meaning.{Cells}
 use Rattle.drive.specs.Width.{within}
 use Rattle.drive.specs.declared.cell.Cell.{Cell}
@@ -16,8 +17,7 @@ high_limit = pos 2000
 -- the cell 12.n: a word; 12.08 is not writable, 12.07 is changeable only while off
 abbrev pub bench_cell : ℕ → ℤ → Cell
 bench_cell n v = record {
-  group = 12;
-  number = n;
+  key = record { group = 12; number = n };
   width = Word;
   low = low_limit;
   high = high_limit;
@@ -44,5 +44,4 @@ first_values = replicate 8 (pos 1000)
 
 -- each value lies within the limits
 abbrev pub all_within : List ℤ → Bool
-all_within [] = true
-all_within (v ∷ vs) = within low_limit high_limit v && all_within vs
+all_within vs = list_all (within low_limit high_limit) vs

@@ -6,7 +6,7 @@ ghost use Rattle.bench_drive.specs.Plan.{unused};
 
 use crate::plan::{PlanEntry, planned};
 use crate::state::BenchDrive;
-use drive::{Cell, ChangeError, Command, Drive, Link, Speed, Width};
+use drive::{Cell, Change, ChangeError, Command, Drive, Fault, Key, Link, Speed, Width};
 
 // The group of all the cells.
 const GROUP: u8 = 12;
@@ -37,8 +37,10 @@ fn bench_cell(number: u8, value: i32) -> Cell
     ensures { result ≡ bench_cell number value }
 {
     Cell {
-        group: GROUP,
-        number,
+        key: Key {
+            group: GROUP,
+            number,
+        },
         width: Width::Word,
         low: LOW,
         high: HIGH,
@@ -49,11 +51,11 @@ fn bench_cell(number: u8, value: i32) -> Cell
 }
 
 // The place of a cell's value among the values.
-fn place(group: u8, number: u8) -> Option<usize>
-    ensures { result ≡ place group number }
+fn place(key: Key) -> Option<usize>
+    ensures { result ≡ place key.group key.number }
 {
-    if group == GROUP && 1 <= number && number <= LAST {
-        Some(usize::from(number - 1))
+    if key.group == GROUP && (1..=LAST).contains(&key.number) {
+        Some(usize::from(key.number - 1))
     } else {
         None
     }
@@ -79,7 +81,7 @@ impl BenchDrive {
             values: [FIRST_VALUE; 8],
             command: Command::Off,
             speed: Speed::ZERO,
-            fault: 0,
+            fault: None,
             link: Link::Good,
             ticks: 0,
             plan,
@@ -96,27 +98,17 @@ impl Drive for BenchDrive {
 
     ghost keeps = { SamePlan };
 
-    fn cell(&self, group: u8, number: u8) -> Option<Cell> {
-        let place = place(group, number)?;
-        Some(bench_cell(number, self.values[place]))
+    fn cell(&self, key: Key) -> Option<Cell> {
+        let place = place(key)?;
+        Some(bench_cell(key.number, self.values[place]))
     }
 
-    fn change(
-        &mut self,
-        group: u8,
-        number: u8,
-        width: Width,
-        value: i32,
-    ) -> Result<(), ChangeError> {
-        let Some(place) = place(group, number) else {
-            return Err(ChangeError::NoCell);
-        };
-        let cell = bench_cell(number, self.values[place]);
-        let answer = cell.check_change(self.command, width, value);
-        if let Ok(()) = answer {
-            self.values[place] = value;
-        }
-        answer
+    fn change(&mut self, change: Change) -> Result<(), ChangeError> {
+        let place = place(change.key).ok_or(ChangeError::NoCell)?;
+        let cell = bench_cell(change.key.number, self.values[place]);
+        cell.check_change(self.command, change.width, change.value)?;
+        self.values[place] = change.value;
+        Ok(())
     }
 
     fn set_command(&mut self, command: Command) {
@@ -128,15 +120,13 @@ impl Drive for BenchDrive {
         self.speed = self.command.target();
         self.ticks = (self.ticks + 1).min(PAST_PLAN);
         if let Some(entry) = planned(&self.plan, self.ticks) {
-            self.link = Link::from_number(entry.link);
-            if entry.fault != 0 {
-                self.fault = entry.fault;
-            }
+            self.link = Link::from(entry.link);
+            self.fault = entry.fault.or(self.fault);
         }
     }
 
     fn reset(&mut self) {
-        self.fault = 0;
+        self.fault = None;
     }
 
     fn command(&self) -> Command {
@@ -147,7 +137,7 @@ impl Drive for BenchDrive {
         self.speed
     }
 
-    fn fault(&self) -> u16 {
+    fn fault(&self) -> Option<Fault> {
         self.fault
     }
 

@@ -2,14 +2,16 @@
 ghost use Rattle.std.specs.Prelude.{◌≡◌, ◌<◌, None};
 ghost use Rattle.bench_drive.specs.Plan.{planned};
 
+use drive::Fault;
+
 // What happens at one tick.
 #[derive(Clone, Copy, Debug, PartialEq, Eq)]
 pub struct PlanEntry {
-    // 1 to 65535, or 0 for an entry that is not used
+    // 1 to 65535, or 0 for an entry that is not used: an Option of an entry would leave 0 a second way to say so
     pub tick: u16,
-    // 0 keeps the fault as it is
-    pub fault: u16,
-    // the number of the link, where those above 2 mean 2
+    // none keeps the fault as it is
+    pub fault: Option<Fault>,
+    // the number of the link, where those above 2 mean 2: a Link has only three of these values
     pub link: u8,
 }
 
@@ -17,7 +19,7 @@ impl PlanEntry {
     // An entry that never fires: the first tick is 1.
     pub const UNUSED: PlanEntry = PlanEntry {
         tick: 0,
-        fault: 0,
+        fault: None,
         link: 0,
     };
 }
@@ -27,10 +29,7 @@ pub(crate) fn planned(plan: &[PlanEntry; 8], tick: u32) -> Option<PlanEntry>
     ensures value { result ≡ planned plan.now tick }
     ensures over { 65535 < tick → result ≡ None }
 {
-    for entry in plan {
-        if u32::from(entry.tick) == tick {
-            return Some(*entry);
-        }
-    }
-    None
+    plan.iter()
+        .find(|entry| u32::from(entry.tick) == tick)
+        .copied()
 }

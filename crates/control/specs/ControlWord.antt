@@ -1,9 +1,6 @@
 -- The bits of a control word. Assumes nothing.
-use Rattle.std.specs.Prelude.{ℕ, Bool, not, ◌==◌, bit_and}
-
--- whether a word has the bit of this mask set
-abbrev pub is_set : ℕ → ℕ → Bool
-is_set mask word = not (bit_and word mask == 0)
+use Rattle.std.specs.Prelude.{ℕ, Bool}
+use Rattle.control.specs.Flags.{is_set}
 
 -- bit 0: on; clear asks to stop along the ramp (OFF1)
 abbrev pub on : ℕ → Bool

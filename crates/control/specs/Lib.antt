@@ -1,4 +1,5 @@
 pub mod DriveState
+pub mod Flags
 pub mod ControlWord
 pub mod Step
 pub mod StepLaws

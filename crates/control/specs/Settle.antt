@@ -1,13 +1,13 @@
 -- How an event settles, and what leaving data exchange makes of the drive state. Assumes nothing.
-use Rattle.std.specs.Prelude.{◌≡◌, ℕ, Bool, true, false, cond, not, ℤ, pos, negsuc, ◌==◌}
+use Rattle.std.specs.Prelude.{◌≡◌, ℕ, Bool, true, cond, not, ℤ, pos, ◌==◌}
+use Rattle.std.specs.Ordering.{int_eq}
 use Rattle.control.specs.DriveState.{is_operating, is_fault}
 use Rattle.control.specs.declared.drive_state.DriveState.{DriveState}
 use Rattle.control.specs.declared.drive_state.DriveState.TheVariants.{Inhibited, ReadyOn, ReadyRun, Operating, Off1Active, Off3Active, Fault}
 
 -- a speed of 0
 abbrev pub stands : ℤ → Bool
-stands (pos n) = n == 0
-stands (negsuc n) = false
+stands speed = int_eq speed (pos 0)
 
 -- without a fault: FAULT ends, and standstill ends both ways of stopping
 abbrev pub without_fault : DriveState → Bool → DriveState

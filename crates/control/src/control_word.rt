@@ -1,6 +1,5 @@
 // The control word: what a master asks of the drive.
-ghost use Rattle.std.specs.Prelude.{◌≡◌};
-ghost use Rattle.control.specs.ControlWord.{is_set};
+use crate::flags::Flags;
 
 #[derive(Clone, Copy, Debug, PartialEq, Eq)]
 pub struct ControlWord(pub u16);
@@ -32,11 +31,12 @@ impl ControlWord {
 
     // Bit 10: the word is meant; clear, it is not taken.
     pub const CONTROL_BY_MASTER: u16 = 0x0400;
+}
 
-    // Whether the bit of this mask is set.
-    pub fn has(self, mask: u16) -> bool
-        ensures { result ≡ is_set mask self.0 }
-    {
-        self.0 & mask != 0
+impl Flags for ControlWord {
+    ghost bits = { λ word. word.0 };
+
+    fn bits(self) -> u16 {
+        self.0
     }
 }

@@ -20,11 +20,11 @@ pub enum DriveState {
     Fault = 6,
 }
 
-impl DriveState {
-    // The number under which the state is reported.
-    pub fn number(self) -> u8
-        ensures { result ≡ state_number self }
-    {
-        self as u8
+// The number under which the state is reported.
+impl From<DriveState> for u8 {
+    ghost from_gives = { λ state number. number ≡ state_number state };
+
+    fn from(state: DriveState) -> u8 {
+        state as u8
     }
 }

@@ -5,6 +5,7 @@
 mod command;
 mod control_word;
 mod drive_state;
+mod flags;
 mod references;
 mod scale;
 mod settling;
@@ -14,6 +15,7 @@ mod transitions;
 pub use command::command_for;
 pub use control_word::ControlWord;
 pub use drive_state::DriveState;
+pub use flags::Flags;
 pub use references::reference;
 pub use scale::{scaled_speed, shown_speed};
 pub use settling::{leave, settle};

@@ -4,6 +4,7 @@ ghost use Rattle.drive.specs.Command.{command_of};
 ghost use Rattle.control.specs.Reference.{next_reference};
 
 use crate::control_word::ControlWord;
+use crate::flags::Flags;
 use drive::{Command, Speed};
 
 // The reference after a taken word and the scaled speed beside it, while this command is in force; without a word it is kept.

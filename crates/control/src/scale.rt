@@ -22,5 +22,6 @@ pub fn shown_speed(speed: Speed) -> i16
     ensures value { result ≡ shown_speed speed.value }
     ensures scales { ScalesToWord }
 {
+    // as: what full speed shows fits, so try_from would add an Err that cannot occur
     (speed.value() * WORD_PARTS / SPEED_PARTS) as i16
 }

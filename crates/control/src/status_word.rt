@@ -1,11 +1,11 @@
 // The status word: what the master sees of the drive.
 ghost use Rattle.std.specs.Prelude.{◌≡◌};
 ghost use Rattle.drive.specs.Command.{command_of};
-ghost use Rattle.control.specs.ControlWord.{is_set};
 ghost use Rattle.control.specs.StatusWord.{at_reference, shown_if, state_bits, status_word, Shows};
 
 use crate::control_word::ControlWord;
 use crate::drive_state::DriveState;
+use crate::flags::Flags;
 use drive::{Command, Link, Speed};
 
 #[derive(Clone, Copy, Debug, PartialEq, Eq)]
@@ -40,12 +40,13 @@ impl StatusWord {
 
     // Bit 9: process data are exchanged.
     pub const DATA_EXCHANGE: u16 = 0x0200;
+}
 
-    // Whether the bit of this mask is set.
-    pub fn has(self, mask: u16) -> bool
-        ensures { result ≡ is_set mask self.0 }
-    {
-        self.0 & mask != 0
+impl Flags for StatusWord {
+    ghost bits = { λ word. word.0 };
+
+    fn bits(self) -> u16 {
+        self.0
     }
 }
 
@@ -70,7 +71,7 @@ fn at_reference(command: Command, speed: Speed) -> bool
     ensures { result ≡ at_reference (command_of command) speed.value }
 {
     match command {
-        Command::Run(reference) => speed.value() == reference.value(),
+        Command::Run(reference) => speed == reference,
         _ => false,
     }
 }
@@ -95,8 +96,8 @@ fn state_bits(state: DriveState) -> u16
 
 impl Status {
     pub fn word(self) -> StatusWord
-        ensures value { result.0 ≡ status_word self.state self.latest.0 self.link (command_of self.command) self.speed.value self.data_exchange }
-        ensures shows { Shows self.state self.latest.0 self.link (command_of self.command) self.speed.value self.data_exchange result.0 }
+        ensures value { result.0 ≡ status_word self }
+        ensures shows { Shows self result.0 }
     {
         StatusWord(
             state_bits(self.state)
@@ -108,7 +109,7 @@ impl Status {
                     self.latest.has(ControlWord::NO_QUICK_STOP),
                     StatusWord::NO_QUICK_STOP,
                 )
-                | shown_if(self.link.number() != 0, StatusWord::LINK_LOST)
+                | shown_if(self.link != Link::Good, StatusWord::LINK_LOST)
                 | shown_if(
                     at_reference(self.command, self.speed),
                     StatusWord::AT_REFERENCE,

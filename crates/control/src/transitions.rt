@@ -5,8 +5,10 @@ ghost use Rattle.control.specs.StepLaws.{StandsStill, OperatingOnlyByRunWord, Re
 
 use crate::control_word::ControlWord;
 use crate::drive_state::DriveState;
+use crate::flags::Flags;
 
 // What a taken control word leads to.
+// No Option of a state: the state is there whether or not a reset is asked.
 #[derive(Clone, Copy, Debug, PartialEq, Eq)]
 pub struct Stepped {
     pub state: DriveState,
@@ -15,6 +17,7 @@ pub struct Stepped {
 }
 
 // One step by the first line that fits.
+// state and word stay two parameters: steps change the one and keep the other.
 fn one_step(state: DriveState, word: ControlWord) -> DriveState
     ensures { result ≡ one_step word.0 state }
 {
@@ -38,25 +41,18 @@ fn one_step(state: DriveState, word: ControlWord) -> DriveState
     }
 }
 
-// Steps until the state stands still.
+// Steps until the state stands still: no word makes more than two.
 fn steps(state: DriveState, word: ControlWord) -> DriveState
     ensures { result ≡ stepped word.0 state }
 {
-    let mut now = state;
-    loop {
-        let next = one_step(now, word);
-        if next == now {
-            return now;
-        }
-        now = next;
-    }
+    one_step(one_step(state, word), word)
 }
 
 // Whether a taken word asks for a reset: in FAULT, where bit 7 has risen since the word before.
 fn asks_reset(state: DriveState, before: ControlWord, word: ControlWord) -> bool
     ensures { result ≡ asks_reset state before.0 word.0 }
 {
-    matches!(state, DriveState::Fault)
+    state == DriveState::Fault
         && word.has(ControlWord::ACKNOWLEDGE)
         && !before.has(ControlWord::ACKNOWLEDGE)
 }

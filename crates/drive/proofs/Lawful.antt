@@ -6,13 +6,13 @@ use Rattle.drive.specs.Cell.{is_sound, has_valid_key}
 use Rattle.drive.specs.Meaning.{Meaning, CellsLawful, Outside, sound_at}
 use Rattle.drive.specs.declared.cell.Cell.{Cell}
 
-inside : (c : Cell) (g n : ℕ) → (eqb c.group g && eqb c.number n) ≡ true → has_valid_key c ≡ true → Outside g ⊎ Outside n → ⊥
+inside : (c : Cell) (g n : ℕ) → (eqb c.key.group g && eqb c.key.number n) ≡ true → has_valid_key c ≡ true → Outside g ⊎ Outside n → ⊥
 inside c g n at named out = grind (arith, nat_tests)
 
 nothing_outside : (g n : ℕ) (o : Option Cell) → sound_at g n o ≡ true → Outside g ⊎ Outside n → o ≡ None
 nothing_outside g n None h out = refl
 nothing_outside g n (Some c) h out =
-    let p = and_parts (eqb c.group g && eqb c.number n) (is_sound c) h in
+    let p = and_parts (eqb c.key.group g && eqb c.key.number n) (is_sound c) h in
     absurd (inside c g n p.0 (and_parts _ _ p.1).0 out)
 
 -- sound cells, each under its own group and number, are lawful

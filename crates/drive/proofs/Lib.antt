@@ -1,4 +1,3 @@
-pub mod Change
+pub mod Changing
 pub mod Lawful
 pub mod Ticks
-pub mod Toward

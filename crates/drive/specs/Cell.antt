@@ -13,7 +13,7 @@ one_to_255 n = nat_le 1 n && nat_le n 255
 
 -- group and number are 1 to 255
 abbrev pub has_valid_key : Cell → Bool
-has_valid_key c = one_to_255 c.group && one_to_255 c.number
+has_valid_key c = one_to_255 c.key.group && one_to_255 c.key.number
 
 -- the value lies within the limits
 abbrev pub value_within_limits : Cell → Bool
@@ -30,8 +30,7 @@ is_sound c = has_valid_key c && (limits_within_width c && value_within_limits c)
 -- the cell with another value
 abbrev pub with_value : Cell → ℤ → Cell
 with_value c v = record {
-  group = c.group;
-  number = c.number;
+  key = c.key;
   width = c.width;
   low = c.low;
   high = c.high;

@@ -1,5 +1,5 @@
 -- What a drive is commanded to do. Assumes nothing.
-use Rattle.std.specs.Prelude.{Bool, true, false, ℤ, pos}
+use Rattle.std.specs.Prelude.{ℕ, Bool, true, false, List, ℤ, pos, codes}
 use Rattle.drive.specs.declared.command.Command.{Command}
 use Rattle.drive.specs.declared.command.Command.TheVariants.{Off, Run, RampStop, QuickStop}
 
@@ -29,3 +29,10 @@ target off = pos 0
 target (run r) = r
 target ramp_stop = pos 0
 target quick_stop = pos 0
+
+-- the words for a command, without its reference
+abbrev pub command_text : InForce → List ℕ
+command_text off = codes "off"
+command_text (run r) = codes "run"
+command_text ramp_stop = codes "ramp stop"
+command_text quick_stop = codes "quick stop"

@@ -1,6 +1,8 @@
+pub mod Key
 pub mod Width
 pub mod Link
 pub mod Error
+pub mod Fault
 pub mod Speed
 pub mod Command
 pub mod Cell

@@ -4,6 +4,7 @@ use Rattle.drive.specs.Cell.{is_sound, with_value, change_check}
 use Rattle.drive.specs.Command.{InForce, target}
 use Rattle.drive.specs.Speed.{InRange, InSpan}
 use Rattle.drive.specs.declared.cell.Cell.{Cell}
+use Rattle.drive.specs.declared.change.Change.{Change}
 use Rattle.drive.specs.declared.error.ChangeError.{ChangeError}
 use Rattle.drive.specs.declared.error.ChangeError.TheVariants.{NoCell}
 use Rattle.drive.specs.declared.link.Link.{Link}
@@ -24,7 +25,7 @@ pub record Meaning : Type 0 where
 -- what is found at group g, number n carries g and n and is a sound cell
 abbrev pub sound_at : ℕ → ℕ → Option Cell → Bool
 sound_at g n None = true
-sound_at g n (Some c) = (c.group == g && c.number == n) && is_sound c
+sound_at g n (Some c) = (c.key.group == g && c.key.number == n) && is_sound c
 
 -- neither 0 nor above 255
 abbrev pub Outside : ℕ → Type 0
@@ -65,9 +66,9 @@ abbrev pub change_found : Option Cell → InForce → Width → ℤ → Result U
 change_found None command w v = Err NoCell
 change_found (Some c) command w v = change_check c command w v
 
--- the answer to a change of the cell g, n
-abbrev pub change_answer : Meaning → ℕ → ℕ → Width → ℤ → Result Unit ChangeError
-change_answer m g n w v = change_found (m.cells g n) m.command w v
+-- the answer to a change of a cell
+abbrev pub change_answer : Meaning → Change → Result Unit ChangeError
+change_answer m c = change_found (m.cells c.key.group c.key.number) m.command c.width c.value
 
 abbrev pub taken : Option Cell → ℤ → Option Cell
 taken None v = None
@@ -78,9 +79,9 @@ abbrev pub put : Cells → ℕ → ℕ → ℤ → Cells
 put cells g n v h k = cond (h == g && k == n) (taken (cells h k) v) (cells h k)
 
 -- the meaning after a change, by its answer: one cell takes the value; a refused change leaves all
-abbrev pub changed : Result Unit ChangeError → Meaning → ℕ → ℕ → ℤ → Meaning
-changed (Ok u) m g n v = with_cells m (put m.cells g n v)
-changed (Err e) m g n v = m
+abbrev pub changed : Result Unit ChangeError → Meaning → Change → Meaning
+changed (Ok u) m c = with_cells m (put m.cells c.key.group c.key.number c.value)
+changed (Err e) m c = m
 
 -- what a tick may make of a drive: the speed stays within the span of itself, the reference under run and 0; a fault stays a fault
 pub record Ticked (before after : Meaning) : Type 0 where

@@ -1,17 +1,18 @@
 // A drive's parameter.
 ghost use Rattle.std.specs.Prelude.{◌≡◌};
-ghost use Rattle.drive.specs.Cell.{has_valid_key, limits_within_width, value_within_limits, is_sound, change_check, TakenFits, with_value};
+ghost use Rattle.drive.specs.Cell.{has_valid_key, limits_within_width, is_sound, change_check, TakenFits, with_value};
+ghost use Rattle.drive.specs.Width.{within};
 ghost use Rattle.drive.specs.Command.{command_of};
 
 use crate::command::Command;
 use crate::error::ChangeError;
+use crate::key::Key;
 use crate::width::Width;
 
 // A sound cell has a group and a number of 1 to 255, limits within the width and a value within the limits.
 #[derive(Clone, Copy, Debug, PartialEq, Eq)]
 pub struct Cell {
-    pub group: u8,
-    pub number: u8,
+    pub key: Key,
     pub width: Width,
     pub low: i32,
     pub high: i32,
@@ -25,7 +26,7 @@ impl Cell {
     fn has_valid_key(&self) -> bool
         ensures { result ≡ has_valid_key self.now }
     {
-        self.group != 0 && self.number != 0
+        self.key.group != 0 && self.key.number != 0
     }
 
     fn has_limits_within_width(&self) -> bool
@@ -34,20 +35,22 @@ impl Cell {
         self.width.fits(self.low) && self.width.fits(self.high)
     }
 
-    fn has_value_within_limits(&self) -> bool
-        ensures { result ≡ value_within_limits self.now }
+    // Whether a value lies within the limits.
+    fn allows(&self, value: i32) -> bool
+        ensures { result ≡ within self.now.low self.now.high value }
     {
-        self.low <= self.value && self.value <= self.high
+        (self.low..=self.high).contains(&value)
     }
 
     // Whether group and number are 1 to 255, the limits lie within the width and the value within the limits.
     pub fn is_sound(&self) -> bool
         ensures { result ≡ is_sound self.now }
     {
-        self.has_valid_key() && self.has_limits_within_width() && self.has_value_within_limits()
+        self.has_valid_key() && self.has_limits_within_width() && self.allows(self.value)
     }
 
     // Whether the cell takes this value under this command, and if not, which check fails first.
+    // Width and value and no Change: the cell is at hand, so there is no key to give.
     pub fn check_change(
         &self,
         command: Command,
@@ -63,7 +66,7 @@ impl Cell {
         if self.width != width {
             return Err(ChangeError::OtherWidth);
         }
-        if value < self.low || value > self.high {
+        if !self.allows(value) {
             return Err(ChangeError::OutsideLimits);
         }
         if self.only_while_off && !command.is_off() {

@@ -1,14 +1,17 @@
 // What each make of drive offers, and what it means.
 ghost use Rattle.std.specs.Prelude.{◌≡◌};
 ghost use Rattle.drive.specs.Command.{command_of};
+ghost use Rattle.drive.specs.Fault.{fault_number};
 ghost use Rattle.drive.specs.Meaning.{Meaning, CellsLawful, ReferenceLawful, SpeedLawful, FaultLawful, change_answer, changed, RefusedLeaves, with_command, Ticked, Reset};
 
 use crate::cell::Cell;
+use crate::change::Change;
 use crate::command::Command;
 use crate::error::ChangeError;
+use crate::fault::Fault;
+use crate::key::Key;
 use crate::link::Link;
 use crate::speed::Speed;
-use crate::width::Width;
 
 pub trait Drive {
     // Its cells, the command in force, speed, fault and link.
@@ -23,15 +26,15 @@ pub trait Drive {
     // What else of the drive, beside its meaning, stays when a cell is changed or a command given.
     ghost keeps: { Self → Self → Type 0 } = { λ _ _. Unit {0} };
 
-    // The cell of this group and number, or none.
-    fn cell(&self, group: u8, number: u8) -> Option<Cell>
-        ensures value { result ≡ (meaning self.now).cells group number }
+    // The cell with this key, or none.
+    fn cell(&self, key: Key) -> Option<Cell>
+        ensures value { result ≡ (meaning self.now).cells key.group key.number }
         ensures lawful { CellsLawful (meaning self.now) };
 
     // The cell takes the value, and nothing else of the meaning changes; or the first check that fails refuses it, and the meaning stays.
-    fn change(&mut self, group: u8, number: u8, width: Width, value: i32) -> Result<(), ChangeError>
-        ensures answer { result ≡ change_answer (meaning self.old) group number width value }
-        ensures after { meaning self.new ≡ changed result (meaning self.old) group number value }
+    fn change(&mut self, change: Change) -> Result<(), ChangeError>
+        ensures answer { result ≡ change_answer (meaning self.old) change }
+        ensures after { meaning self.new ≡ changed result (meaning self.old) change }
         ensures refused_leaves { RefusedLeaves result (meaning self.old) (meaning self.new) }
         ensures keeps { keeps self.old self.new };
 
@@ -59,9 +62,8 @@ pub trait Drive {
         ensures value { result.value ≡ (meaning self.now).speed }
         ensures lawful { SpeedLawful (meaning self.now) };
 
-    // The fault's number, 0 for none.
-    fn fault(&self) -> u16
-        ensures value { result ≡ (meaning self.now).fault }
+    fn fault(&self) -> Option<Fault>
+        ensures value { fault_number result ≡ (meaning self.now).fault }
         ensures lawful { FaultLawful (meaning self.now) };
 
     fn link(&self) -> Link

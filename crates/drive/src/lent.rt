@@ -2,12 +2,14 @@
 ghost use Rattle.std.specs.Prelude.{◌≡◌};
 
 use crate::cell::Cell;
+use crate::change::Change;
 use crate::command::Command;
 use crate::drive::Drive;
 use crate::error::ChangeError;
+use crate::fault::Fault;
+use crate::key::Key;
 use crate::link::Link;
 use crate::speed::Speed;
-use crate::width::Width;
 
 impl<D: Drive> Drive for &mut D {
     ghost meaning = { λ d. D.Drive.meaning d.now };
@@ -18,18 +20,12 @@ impl<D: Drive> Drive for &mut D {
 
     ghost keeps = { λ before after. D.Drive.keeps before.now after.now };
 
-    fn cell(&self, group: u8, number: u8) -> Option<Cell> {
-        (**self).cell(group, number)
+    fn cell(&self, key: Key) -> Option<Cell> {
+        (**self).cell(key)
     }
 
-    fn change(
-        &mut self,
-        group: u8,
-        number: u8,
-        width: Width,
-        value: i32,
-    ) -> Result<(), ChangeError> {
-        (**self).change(group, number, width, value)
+    fn change(&mut self, change: Change) -> Result<(), ChangeError> {
+        (**self).change(change)
     }
 
     fn set_command(&mut self, command: Command) {
@@ -52,7 +48,7 @@ impl<D: Drive> Drive for &mut D {
         (**self).speed()
     }
 
-    fn fault(&self) -> u16 {
+    fn fault(&self) -> Option<Fault> {
         (**self).fault()
     }
 

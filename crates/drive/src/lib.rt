@@ -3,9 +3,12 @@
 #![tactic(auto)]
 
 mod cell;
+mod change;
 mod command;
 mod drive;
 mod error;
+mod fault;
+mod key;
 mod lent;
 mod link;
 mod speed;
@@ -13,9 +16,12 @@ mod ticking;
 mod width;
 
 pub use cell::Cell;
+pub use change::Change;
 pub use command::Command;
 pub use drive::Drive;
 pub use error::ChangeError;
+pub use fault::Fault;
+pub use key::Key;
 pub use link::Link;
 pub use speed::Speed;
 pub use ticking::tick_times;

@@ -24,6 +24,7 @@ impl Speed {
         Speed { value }
     }
 
+    // A method: i32::from(speed) would say no more, and a speed is asked for its value everywhere.
     pub fn value(self) -> i32
         ensures { result ≡ self.value }
     {
@@ -35,7 +36,7 @@ impl Speed {
         ensures value { result.value ≡ toward self.value target.value step }
         ensures between { InSpan self.value target.value result.value }
     {
-        let step = step as i32;
+        let step = i32::from(step);
         let up = self.value + step;
         if up < target.value {
             return Speed { value: up };

@@ -10,7 +10,7 @@ pub enum Width {
 }
 
 impl Width {
-    // How many bits a value has.
+    // How many bits a value has; a method, as u8::from would not say that it is bits.
     pub fn bits(self) -> u8
         ensures { result ≡ width_bits self }
     {
@@ -22,7 +22,7 @@ impl Width {
         ensures { result ≡ fits self value }
     {
         match self {
-            Width::Word => i16::MIN as i32 <= value && value <= i16::MAX as i32,
+            Width::Word => i16::try_from(value).is_ok(),
             Width::Double => true,
         }
     }

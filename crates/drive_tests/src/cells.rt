@@ -1,10 +1,12 @@
 // Cells: sound ones, and the checks of a change in their order.
-use drive::{Cell, ChangeError, Command, Speed, Width};
+use drive::{Cell, ChangeError, Command, Key, Speed, Width};
 use std::process::Abort;
 
 const WORD: Cell = Cell {
-    group: 12,
-    number: 4,
+    key: Key {
+        group: 12,
+        number: 4,
+    },
     width: Width::Word,
     low: -2000,
     high: 2000,
@@ -14,8 +16,10 @@ const WORD: Cell = Cell {
 };
 
 const WIDEST_WORD: Cell = Cell {
-    group: 255,
-    number: 255,
+    key: Key {
+        group: 255,
+        number: 255,
+    },
     width: Width::Word,
     low: -32768,
     high: 32767,
@@ -25,8 +29,10 @@ const WIDEST_WORD: Cell = Cell {
 };
 
 const WIDEST_DOUBLE: Cell = Cell {
-    group: 1,
-    number: 1,
+    key: Key {
+        group: 1,
+        number: 1,
+    },
     width: Width::Double,
     low: -2147483648,
     high: 2147483647,
@@ -35,6 +41,7 @@ const WIDEST_DOUBLE: Cell = Cell {
     only_while_off: true,
 };
 
+// Command, width and value as check_change takes them.
 fn refused(
     rt: &impl Abort,
     cell: Cell,
@@ -80,8 +87,20 @@ fn sound_at_the_ends_of_the_width(rt: HostRuntime) {
 #[test]
 fn unsound(rt: HostRuntime) {
     assert!(rt; WORD.is_sound());
-    assert!(rt; !Cell { group: 0, ..WORD }.is_sound());
-    assert!(rt; !Cell { number: 0, ..WORD }.is_sound());
+    assert!(rt;
+        !Cell {
+            key: Key::new(0, 4),
+            ..WORD
+        }
+        .is_sound()
+    );
+    assert!(rt;
+        !Cell {
+            key: Key::new(12, 0),
+            ..WORD
+        }
+        .is_sound()
+    );
     assert!(rt;
         !Cell {
             value: 2001,
@@ -215,11 +234,11 @@ fn order_of_the_errors(rt: HostRuntime) {
 
 #[test]
 fn numbers_of_the_errors(rt: HostRuntime) {
-    assert_eq!(rt; ChangeError::NoCell.number(), 0);
-    assert_eq!(rt; ChangeError::NotWritable.number(), 1);
-    assert_eq!(rt; ChangeError::OutsideLimits.number(), 2);
-    assert_eq!(rt; ChangeError::OtherWidth.number(), 5);
-    assert_eq!(rt; ChangeError::OnlyWhileOff.number(), 17);
+    assert_eq!(rt; u8::from(ChangeError::NoCell), 0);
+    assert_eq!(rt; u8::from(ChangeError::NotWritable), 1);
+    assert_eq!(rt; u8::from(ChangeError::OutsideLimits), 2);
+    assert_eq!(rt; u8::from(ChangeError::OtherWidth), 5);
+    assert_eq!(rt; u8::from(ChangeError::OnlyWhileOff), 17);
 }
 
 #[test]

@@ -1,5 +1,6 @@
 // The fan's drive: a ramp, and a trip when it is to turn backwards.
-use drive::{ChangeError, Command, Drive, Speed, Width};
+use crate::asked::change;
+use drive::{ChangeError, Command, Drive, Fault, Speed, Width};
 use fan_drive::FanDrive;
 
 #[test]
@@ -9,13 +10,13 @@ fn ramps_by_its_cell(rt: HostRuntime) {
     fan.tick();
     assert_eq!(rt; fan.speed().value(), 100);
     assert_eq!(rt;
-        fan.change(1, 1, Width::Word, 40),
+        fan.change(change(1, 1, Width::Word, 40)),
         Err(ChangeError::OnlyWhileOff)
     );
     fan.set_command(Command::Off);
-    assert_eq!(rt; fan.change(1, 1, Width::Word, 40), Ok(()));
+    assert_eq!(rt; fan.change(change(1, 1, Width::Word, 40)), Ok(()));
     assert_eq!(rt;
-        fan.change(1, 1, Width::Word, 0),
+        fan.change(change(1, 1, Width::Word, 0)),
         Err(ChangeError::OutsideLimits)
     );
     fan.tick();
@@ -27,11 +28,15 @@ fn trips_backwards(rt: HostRuntime) {
     let mut fan = FanDrive::new();
     fan.set_command(Command::Run(Speed::held(-1)));
     fan.tick();
-    assert_eq!(rt; fan.fault(), 1);
+    assert_eq!(rt; fan.fault().map(u16::from), Some(1));
     assert_eq!(rt; fan.speed().value(), 0);
     fan.reset();
-    assert_eq!(rt; fan.fault(), 1, "while still commanded backwards");
+    assert_eq!(rt;
+        fan.fault(),
+        Fault::new(1),
+        "while still commanded backwards"
+    );
     fan.set_command(Command::Off);
     fan.reset();
-    assert_eq!(rt; fan.fault(), 0);
+    assert_eq!(rt; fan.fault(), None);
 }

@@ -1,12 +1,11 @@
 // Lists of cells, accepted and refused.
-use drive::{Cell, Drive, Width};
+use drive::{Cell, Drive, Key, Width};
 use std::process::Abort;
 use table_drive::{ListRefusal, MOST_CELLS, TableDrive};
 
 fn cell(group: u8, number: u8) -> Cell {
     Cell {
-        group,
-        number,
+        key: Key::new(group, number),
         width: Width::Word,
         low: 0,
         high: 100,
@@ -28,12 +27,8 @@ fn judged<const N: usize>(
         let mut table = TableDrive::new(&mut lent, 1);
         assert_eq!(rt; table.accept(), expected, "{what}");
         for cell in &list {
-            let found = table.cell(cell.group, cell.number);
-            assert_eq!(rt;
-                found,
-                if expected.is_ok() { Some(*cell) } else { None },
-                "{what}"
-            );
+            let found = table.cell(cell.key);
+            assert_eq!(rt; found, expected.is_ok().then_some(*cell), "{what}");
         }
     }
     assert_eq!(rt; lent, list, "{what}");
@@ -60,7 +55,7 @@ fn empty(rt: HostRuntime) {
     let mut list: [Cell; 0] = [];
     let mut table = TableDrive::new(&mut list, 1);
     assert_eq!(rt; table.accept(), Ok(()));
-    assert_eq!(rt; table.cell(1, 1), None);
+    assert_eq!(rt; table.cell(Key::new(1, 1)), None);
 }
 
 #[test]
@@ -145,22 +140,15 @@ fn order_before_soundness(rt: HostRuntime) {
         Err(ListRefusal::BadList),
         "neither rising nor sound",
     );
-    assert_eq!(rt; ListRefusal::BadList.number(), 8);
-    assert_eq!(rt; ListRefusal::BadCell.number(), 9);
+    assert_eq!(rt; u8::from(ListRefusal::BadList), 8);
+    assert_eq!(rt; u8::from(ListRefusal::BadCell), 9);
 }
 
 // The first keys in their order: 1.1 to 1.255, then 2.1 and on.
 fn numbered(list: &mut [Cell]) {
-    let mut group = 1;
-    let mut number = 1;
-    for place in list {
+    let keys = (1..=2u8).flat_map(|group| (1..=255u8).map(move |number| (group, number)));
+    for (place, (group, number)) in list.iter_mut().zip(keys) {
         *place = cell(group, number);
-        if number < 255 {
-            number += 1;
-        } else {
-            group = 2;
-            number = 1;
-        }
     }
 }
 
@@ -170,10 +158,14 @@ fn as_many_as_there_may_be(rt: HostRuntime) {
     numbered(&mut list);
     let mut table = TableDrive::new(&mut list, 1);
     assert_eq!(rt; table.accept(), Ok(()));
-    assert_eq!(rt; table.cell(1, 128), Some(cell(1, 128)));
-    assert_eq!(rt; table.cell(2, 1), Some(cell(2, 1)), "the last one");
-    assert_eq!(rt; table.cell(2, 2), None);
-    assert_eq!(rt; table.cell(1, 0), None);
+    assert_eq!(rt; table.cell(Key::new(1, 128)), Some(cell(1, 128)));
+    assert_eq!(rt;
+        table.cell(Key::new(2, 1)),
+        Some(cell(2, 1)),
+        "the last one"
+    );
+    assert_eq!(rt; table.cell(Key::new(2, 2)), None);
+    assert_eq!(rt; table.cell(Key::new(1, 0)), None);
 }
 
 #[test]

@@ -18,7 +18,7 @@ fn table_drive_as_made(rt: HostRuntime) {
     let table = TableDrive::new(&mut list, 5);
     assert_eq!(rt; table.command(), Command::Off);
     assert_eq!(rt; table.speed().value(), 0);
-    assert_eq!(rt; table.fault(), 0);
+    assert_eq!(rt; table.fault(), None);
     assert_eq!(rt; table.link(), Link::Good);
 }
 
@@ -63,11 +63,11 @@ fn references_are_held(rt: HostRuntime) {
 
 #[test]
 fn links_by_their_numbers(rt: HostRuntime) {
-    assert_eq!(rt; Link::from_number(0), Link::Good);
-    assert_eq!(rt; Link::from_number(1), Link::LostForNow);
-    assert_eq!(rt; Link::from_number(2), Link::LostForGood);
-    assert_eq!(rt; Link::from_number(7), Link::LostForGood);
-    assert_eq!(rt; Link::Good.number(), 0);
-    assert_eq!(rt; Link::LostForNow.number(), 1);
-    assert_eq!(rt; Link::LostForGood.number(), 2);
+    assert_eq!(rt; Link::from(0), Link::Good);
+    assert_eq!(rt; Link::from(1), Link::LostForNow);
+    assert_eq!(rt; Link::from(2), Link::LostForGood);
+    assert_eq!(rt; Link::from(7), Link::LostForGood);
+    assert_eq!(rt; u8::from(Link::Good), 0);
+    assert_eq!(rt; u8::from(Link::LostForNow), 1);
+    assert_eq!(rt; u8::from(Link::LostForGood), 2);
 }

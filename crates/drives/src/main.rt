@@ -6,7 +6,7 @@ mod scene;
 mod step;
 
 use bench_drive::{BenchDrive, PlanEntry};
-use drive::{Cell, Command, Drive, Speed, Width};
+use drive::{Cell, Change, Command, Drive, Fault, Key, Speed, Width};
 use fan_drive::FanDrive;
 use scene::{open, play};
 use step::Step;
@@ -17,19 +17,17 @@ fn run(reference: i32) -> Step {
 }
 
 fn change(group: u8, number: u8, value: i32) -> Step {
-    Step::Change {
-        group,
-        number,
+    Step::Change(Change {
+        key: Key::new(group, number),
         width: Width::Word,
         value,
-    }
+    })
 }
 
 // A ramp by 3000 a tick, and a change that is refused while the drive runs.
 fn table(rt: &HostRuntime) -> anyhow::Result<()> {
     let mut list = [Cell {
-        group: 10,
-        number: 1,
+        key: Key::new(10, 1),
         width: Width::Word,
         low: 0,
         high: 500,
@@ -43,7 +41,7 @@ fn table(rt: &HostRuntime) -> anyhow::Result<()> {
         play(rt, &mut table, &[change(10, 1, 250)])?;
         match table.accept() {
             Ok(()) => println!(rt; "      the list is accepted")?,
-            Err(refusal) => println!(rt; "      the list is refused with {}", refusal.number())?,
+            Err(refusal) => println!(rt; "      the list is refused with {}", u8::from(refusal))?,
         }
         let steps = [
             change(10, 1, 250),
@@ -75,12 +73,12 @@ fn bench(rt: &HostRuntime) -> anyhow::Result<()> {
     let mut plan = [PlanEntry::UNUSED; 8];
     plan[0] = PlanEntry {
         tick: 2,
-        fault: 0,
+        fault: None,
         link: 1,
     };
     plan[1] = PlanEntry {
         tick: 3,
-        fault: 42,
+        fault: Fault::new(42),
         link: 0,
     };
     let mut bench = BenchDrive::with_plan(plan);

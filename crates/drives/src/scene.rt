@@ -23,7 +23,7 @@ pub(crate) fn play<D: Drive>(
         }
         let answer = match take(drive, *step) {
             Ok(()) => format!(in rt.alloc(); "done")?,
-            Err(error) => format!(in rt.alloc(); "error {}", error.number())?,
+            Err(error) => format!(in rt.alloc(); "error {}", u8::from(error))?,
         };
         let done = format!(in rt.alloc(); "{step}")?;
         let row = Row {

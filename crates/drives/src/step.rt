@@ -2,18 +2,14 @@
 ghost use Rattle.std.specs.Prelude.{◌≡◌};
 ghost use Rattle.drives.specs.Step.{Stepped};
 
-use drive::{ChangeError, Command, Drive, Width};
+use drive::{Change, ChangeError, Command, Drive};
 use std::fmt;
 
+// An enum and no closure: a step is printed as well as taken.
 #[derive(Clone, Copy)]
 pub enum Step {
     Command(Command),
-    Change {
-        group: u8,
-        number: u8,
-        width: Width,
-        value: i32,
-    },
+    Change(Change),
     Tick,
     Reset,
 }
@@ -24,12 +20,7 @@ pub fn take<D: Drive>(drive: &mut D, step: Step) -> Result<(), ChangeError>
 {
     match step {
         Step::Command(command) => drive.set_command(command),
-        Step::Change {
-            group,
-            number,
-            width,
-            value,
-        } => return drive.change(group, number, width, value),
+        Step::Change(change) => return drive.change(change),
         Step::Tick => drive.tick(),
         Step::Reset => drive.reset(),
     }
@@ -40,12 +31,7 @@ impl fmt::Display for Step {
     fn fmt<W: fmt::Write>(&self, f: &mut fmt::Formatter<W>) -> fmt::Result {
         match self {
             Step::Command(_) => write!(f, "command"),
-            Step::Change {
-                group,
-                number,
-                value,
-                ..
-            } => write!(f, "change {group}.{number:02} to {value}"),
+            Step::Change(Change { key, value, .. }) => write!(f, "change {key} to {value}"),
             Step::Tick => write!(f, "tick"),
             Step::Reset => write!(f, "reset"),
         }

@@ -1,6 +1,7 @@
 -- What a fan's drive means, and what becomes of it. Assumes nothing.
 use Rattle.std.specs.Prelude.{ℕ, Bool, true, cond, ◌&&◌, ℤ, pos, Some, None, ◌==◌, int_lt}
 use Rattle.drive.specs.Command.{InForce, off, command_of, target}
+use Rattle.drive.specs.Fault.{fault_number}
 use Rattle.drive.specs.Meaning.{Meaning, Cells, moved, with_fault}
 use Rattle.drive.specs.Speed.{toward}
 use Rattle.drive.specs.declared.cell.Cell.{Cell}
@@ -11,8 +12,7 @@ use Rattle.fan_drive.specs.declared.state.FanDrive.{FanDrive}
 -- cell 1.01 with this value: a word, 1 to 20000, changeable only while off
 abbrev pub step_cell : ℤ → Cell
 step_cell v = record {
-  group = 1;
-  number = 1;
+  key = record { group = 1; number = 1 };
   width = Word;
   low = pos 1;
   high = pos 20000;
@@ -31,7 +31,7 @@ fan_meaning d = record {
   cells = fan_cells (pos d.step);
   command = command_of d.command;
   speed = d.speed.value;
-  fault = d.fault;
+  fault = fault_number d.fault;
   link = Good;
 }
 

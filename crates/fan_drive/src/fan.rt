@@ -2,20 +2,26 @@
 ghost use Rattle.std.specs.Prelude.{◌≡◌};
 ghost use Rattle.fan_drive.specs.Fan.{fan_meaning, fan_made, step_cell, fan_ticked, fan_reset, is_backwards, fault_under, aim};
 ghost use Rattle.drive.specs.Command.{command_of};
+ghost use Rattle.drive.specs.Fault.{fault_number};
 
 use crate::state::FanDrive;
-use drive::{Cell, ChangeError, Command, Drive, Link, Speed, Width};
+use drive::{Cell, Change, ChangeError, Command, Drive, Fault, Key, Link, Speed, Width};
 
 // The fault of a fan that is to turn backwards.
-const BACKWARDS: u16 = 1;
+const BACKWARDS: Fault = Fault { number: 1 };
+
+// The key of the cell that holds the step.
+const STEP: Key = Key {
+    group: 1,
+    number: 1,
+};
 
 // The cell that holds the step.
 fn step_cell(value: i32) -> Cell
     ensures { result ≡ step_cell value }
 {
     Cell {
-        group: 1,
-        number: 1,
+        key: STEP,
         width: Width::Word,
         low: 1,
         high: 20000,
@@ -33,24 +39,23 @@ fn is_backwards(command: Command) -> bool
 }
 
 // The fault after a tick under this command.
-fn fault_under(command: Command, fault: u16) -> u16
-    ensures { result ≡ fault_under (command_of command) fault }
+fn fault_under(command: Command, fault: Option<Fault>) -> Option<Fault>
+    ensures { fault_number result ≡ fault_under (command_of command) (fault_number fault) }
 {
     if is_backwards(command) {
-        BACKWARDS
+        Some(BACKWARDS)
     } else {
         fault
     }
 }
 
 // Where the speed goes: to the command's target, in a fault to 0.
-fn aim(command: Command, fault: u16) -> Speed
-    ensures { result.value ≡ aim (command_of command) fault }
+fn aim(command: Command, fault: Option<Fault>) -> Speed
+    ensures { result.value ≡ aim (command_of command) (fault_number fault) }
 {
-    if fault == 0 {
-        command.target()
-    } else {
-        Speed::ZERO
+    match fault {
+        None => command.target(),
+        Some(_) => Speed::ZERO,
     }
 }
 
@@ -63,7 +68,7 @@ impl FanDrive {
             step: 100,
             command: Command::Off,
             speed: Speed::ZERO,
-            fault: 0,
+            fault: None,
         }
     }
 }
@@ -75,29 +80,20 @@ impl Drive for FanDrive {
 
     ghost resets = { λ before after. fan_meaning after ≡ fan_reset (fan_meaning before) };
 
-    fn cell(&self, group: u8, number: u8) -> Option<Cell> {
-        if group == 1 && number == 1 {
-            Some(step_cell(self.step as i32))
+    fn cell(&self, key: Key) -> Option<Cell> {
+        if key == STEP {
+            Some(step_cell(i32::from(self.step)))
         } else {
             None
         }
     }
 
-    fn change(
-        &mut self,
-        group: u8,
-        number: u8,
-        width: Width,
-        value: i32,
-    ) -> Result<(), ChangeError> {
-        let Some(cell) = (*self).cell(group, number) else {
-            return Err(ChangeError::NoCell);
-        };
-        let answer = cell.check_change(self.command, width, value);
-        if let Ok(()) = answer {
-            self.step = value as u16;
-        }
-        answer
+    fn change(&mut self, change: Change) -> Result<(), ChangeError> {
+        let cell = (*self).cell(change.key).ok_or(ChangeError::NoCell)?;
+        cell.check_change(self.command, change.width, change.value)?;
+        // as: the cell's limits fit, so try_from would add an Err that cannot occur
+        self.step = change.value as u16;
+        Ok(())
     }
 
     fn set_command(&mut self, command: Command) {
@@ -112,7 +108,7 @@ impl Drive for FanDrive {
 
     fn reset(&mut self) {
         if !is_backwards(self.command) {
-            self.fault = 0;
+            self.fault = None;
         }
     }
 
@@ -124,7 +120,7 @@ impl Drive for FanDrive {
         self.speed
     }
 
-    fn fault(&self) -> u16 {
+    fn fault(&self) -> Option<Fault> {
         self.fault
     }
 

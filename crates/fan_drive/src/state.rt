@@ -1,7 +1,7 @@
 // What a fan's drive holds.
 ghost use Rattle.std.specs.Prelude.{◌≤◌};
 
-use drive::{Command, Speed};
+use drive::{Command, Fault, Speed};
 
 #[derive(Drop)]
 pub struct FanDrive {
@@ -9,7 +9,7 @@ pub struct FanDrive {
     pub(crate) step: u16,
     pub(crate) command: Command,
     pub(crate) speed: Speed,
-    pub(crate) fault: u16,
+    pub(crate) fault: Option<Fault>,
     ghost low: { 1 ≤ step },
     ghost high: { step ≤ 20000 },
 }

@@ -5,23 +5,15 @@ use Rattle.std.specs.Ordering.{is_eq}
 use Rattle.table_drive.specs.Order.{found}
 use Rattle.table_drive.proofs.Ascending.{Ascending}
 
-pub eq_equal : (o : Ordering) → is_eq o ≡ true → o ≡ Equal
-eq_equal Less e = cc
-eq_equal Equal e = refl
-eq_equal Greater e = cc
-
 not_equal : (o : Ordering) → (o ≡ Equal → ⊥) → is_eq o ≡ false
 not_equal Less h = refl
 not_equal Equal h = absurd (h refl)
 not_equal Greater h = refl
 
-less_equal : (o : Ordering) → o ≡ Less → o ≡ Equal → ⊥
-less_equal o a b = let z : ◌≡◌ {A = ℕ} 0 1 = cc in omega arith
-
 module _ {R K : Type 0} (order : K → K → Ordering) (key : R → K) where
   -- whatever is found lies in the list
   pub in_list : (rs : List R) (k : K) (r : R) → found order key rs k ≡ Some r → (i : ℕ) × (i < length rs) × (get_or rs i r ≡ r)
-  in_list [] k r e = absurd (let z : ◌≡◌ {A = ℕ} 0 1 = cc in omega arith)
+  in_list [] k r e = cc
   in_list (s ∷ rs) k r e =
       ⊎_elim
       (λ (h : is_eq (order (key s) k) ≡ true). let is : Some s ≡ Some r = sym (cond-true _ _ _ h) ∙ e in (0, omega arith, cc))
@@ -50,4 +42,4 @@ module _ {R K : Type 0} (order : K → K → Ordering) (key : R → K) where
     pub found_at : (rs : List R) (k : K) (i : ℕ) (d : R) → Ascending order key rs → i < length rs → key (get_or rs i d) ≡ k → found order key rs k ≡ Some (get_or rs i d)
     found_at rs k i d asc h is =
         first_equal rs k i d h (ap (λ x. order x k) is ∙ itself k)
-        (λ j l e. less_equal (order (key (get_or rs j d)) k) (ap (order (key (get_or rs j d))) (sym is) ∙ asc j i d l h) e)
+        (λ j l e. let less = ap (order (key (get_or rs j d))) (sym is) ∙ asc j i d l h in cc)

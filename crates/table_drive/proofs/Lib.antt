@@ -1,7 +1,6 @@
 pub mod Ascending
-pub mod Bisection
 pub mod KeyOrder
-pub mod Accepting
+pub mod Searching
 pub mod Finding
 pub mod InUse
 pub mod Writing

@@ -11,7 +11,7 @@ use Rattle.drive.specs.declared.cell.Cell.{Cell}
 use Rattle.table_drive.specs.Acceptance.{cells_rise, all_sound}
 use Rattle.table_drive.specs.Key.{key, key_of, by_key}
 use Rattle.table_drive.specs.Table.{cells_of, cells_in_use, put_value}
-use Rattle.table_drive.specs.declared.key.Key.{Key}
+use Rattle.drive.specs.declared.key.Key.{Key}
 use Rattle.table_drive.proofs.Ascending.{first_below, rest_rises}
 use Rattle.table_drive.proofs.KeyOrder.{trans, itself}
 
@@ -82,10 +82,10 @@ put_found (c ∷ cs) g n v h k =
     (cases_Bool (is_eq (by_key (key_of c) (key g n))))
 
 -- the record at the place of a cell in use is written
-module _ (list : List Cell) (g n i : ℕ) (d new : Cell) (v : ℤ) (is : new ≡ with_value (get_or list i d) v) (rise : cells_rise list ≡ true) (h : i < length list) (named : key_of (get_or list i d) ≡ key g n) where
-  pub list_written : set list i new ≡ put_value list (key g n) v
-  list_written = ap (set list i) is ∙ written list (key g n) i d v rise h named
+module _ (list : List Cell) (k : Key) (i : ℕ) (d new : Cell) (v : ℤ) (is : new ≡ with_value (get_or list i d) v) (rise : cells_rise list ≡ true) (h : i < length list) (named : key_of (get_or list i d) ≡ k) where
+  pub list_written : set list i new ≡ put_value list k v
+  list_written = ap (set list i) is ∙ written list k i d v rise h named
 
-  pub cells_written : (b : Bool) → b ≡ true → (k l : ℕ) → cells_in_use b (set list i new) k l ≡ put (cells_in_use b list) g n v k l
-  cells_written true e k l = ap (λ cs. cells_of cs k l) list_written ∙ put_found list g n v k l
-  cells_written false e k l = cc
+  pub cells_written : (b : Bool) → b ≡ true → (g n : ℕ) → cells_in_use b (set list i new) g n ≡ put (cells_in_use b list) k.group k.number v g n
+  cells_written true e g n = ap (λ cs. cells_of cs g n) list_written ∙ put_found list k.group k.number v g n
+  cells_written false e g n = cc

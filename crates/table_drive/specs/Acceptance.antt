@@ -1,5 +1,6 @@
 -- When a list of cells is accepted. Assumes nothing.
-use Rattle.std.specs.Prelude.{ℕ, Bool, true, cond, not, ◌&&◌, ◌||◌, List, [], ◌∷◌, length, Ok, Err, Result, nat_lt}
+use Rattle.std.specs.Prelude.{ℕ, Bool, cond, not, ◌||◌, List, length, Ok, Err, Result, nat_lt}
+use Rattle.std.specs.List.{list_all}
 use Rattle.drive.specs.Cell.{is_sound}
 use Rattle.drive.specs.declared.cell.Cell.{Cell}
 use Rattle.table_drive.specs.Key.{by_key, key_of}
@@ -17,8 +18,7 @@ cells_rise list = rises by_key key_of list
 
 -- each cell is sound
 abbrev pub all_sound : List Cell → Bool
-all_sound [] = true
-all_sound (c ∷ cs) = is_sound c && all_sound cs
+all_sound list = list_all is_sound list
 
 -- whether a list is accepted, by rising number
 abbrev pub acceptance : List Cell → Result Unit ListRefusal

@@ -3,7 +3,7 @@ use Rattle.std.specs.Prelude.{ℕ, cond, nat_lt}
 use Rattle.std.specs.declared.cmp.Ordering.TheVariants.{Less, Equal, Greater}
 use Rattle.std.specs.declared.cmp.Ordering.{Ordering}
 use Rattle.drive.specs.declared.cell.Cell.{Cell}
-use Rattle.table_drive.specs.declared.key.Key.{Key}
+use Rattle.drive.specs.declared.key.Key.{Key}
 
 -- the key of a group and a number
 abbrev pub key : ℕ → ℕ → Key
@@ -11,7 +11,7 @@ key g n = record { group = g; number = n }
 
 -- the key of a cell
 abbrev pub key_of : Cell → Key
-key_of c = key c.group c.number
+key_of c = c.key
 
 -- a against b, and where they are equal the order of what follows
 abbrev pub then_by : ℕ → ℕ → Ordering → Ordering

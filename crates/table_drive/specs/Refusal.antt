@@ -1,5 +1,5 @@
--- The numbers of the refusals of a cell list. Assumes nothing.
-use Rattle.std.specs.Prelude.{ℕ}
+-- The numbers and the words of the refusals of a cell list. Assumes nothing.
+use Rattle.std.specs.Prelude.{ℕ, List, codes}
 use Rattle.table_drive.specs.declared.refusal.ListRefusal.{ListRefusal}
 use Rattle.table_drive.specs.declared.refusal.ListRefusal.TheVariants.{BadList, BadCell}
 
@@ -7,3 +7,8 @@ use Rattle.table_drive.specs.declared.refusal.ListRefusal.TheVariants.{BadList, 
 abbrev pub list_refusal_number : ListRefusal → ℕ
 list_refusal_number BadList = 8
 list_refusal_number BadCell = 9
+
+-- the words in which a refusal is told
+abbrev pub list_refusal_text : ListRefusal → List ℕ
+list_refusal_text BadList = codes "the list has too many cells, or they do not rise"
+list_refusal_text BadCell = codes "a cell of the list is not sound"

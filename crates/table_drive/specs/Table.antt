@@ -7,10 +7,10 @@ use Rattle.drive.specs.Meaning.{Meaning, Cells, moved}
 use Rattle.drive.specs.Speed.{toward}
 use Rattle.drive.specs.declared.cell.Cell.{Cell}
 use Rattle.drive.specs.declared.error.ChangeError.{ChangeError}
+use Rattle.drive.specs.declared.key.Key.{Key}
 use Rattle.drive.specs.declared.link.Link.TheVariants.{Good}
 use Rattle.table_drive.specs.Key.{key, key_of, by_key}
 use Rattle.table_drive.specs.Order.{found, Located}
-use Rattle.table_drive.specs.declared.key.Key.{Key}
 use Rattle.table_drive.specs.declared.refusal.ListRefusal.{ListRefusal}
 use Rattle.table_drive.specs.declared.state.TableDrive.{TableDrive}
 

@@ -2,7 +2,6 @@
 ghost use Rattle.std.specs.Prelude.{◌≡◌};
 ghost use Rattle.table_drive.specs.Acceptance.{cells_rise, all_sound, acceptance};
 
-use crate::key::Key;
 use crate::refusal::ListRefusal;
 use drive::Cell;
 
@@ -13,23 +12,13 @@ pub const MOST_CELLS: usize = 256;
 fn rises(cells: &[Cell]) -> bool
     ensures { result ≡ cells_rise cells.now }
 {
-    for i in 1..cells.len() {
-        if !Key::of(&cells[i - 1]).is_below(Key::of(&cells[i])) {
-            return false;
-        }
-    }
-    true
+    cells.is_sorted_by(|one, next| one.key < next.key)
 }
 
 fn all_sound(cells: &[Cell]) -> bool
     ensures { result ≡ all_sound cells.now }
 {
-    for cell in cells {
-        if !cell.is_sound() {
-            return false;
-        }
-    }
-    true
+    cells.iter().all(Cell::is_sound)
 }
 
 // Refused where the cells are too many or do not rise, then where one is not sound.

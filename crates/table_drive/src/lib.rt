@@ -3,9 +3,7 @@
 #![tactic(auto)]
 
 mod acceptance;
-mod key;
 mod refusal;
-mod search;
 mod state;
 mod table;
 

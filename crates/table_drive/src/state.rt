@@ -7,7 +7,7 @@ use drive::{Cell, Command, Speed};
 #[derive(Drop)]
 pub struct TableDrive<'a> {
     pub(crate) cells: &'a mut [Cell],
-    // no cell is in use until the list is accepted
+    // no cell is in use until the list is accepted; a flag, as the list is held either way
     pub(crate) accepted: bool,
     pub(crate) command: Command,
     pub(crate) speed: Speed,

@@ -3,16 +3,13 @@ ghost use Rattle.std.specs.Prelude.{◌≡◌};
 ghost use Rattle.drive.specs.Command.{command_of};
 ghost use Rattle.drive.specs.Meaning.{with_cells, with_command, change_answer, changed, RefusedLeaves};
 ghost use Rattle.table_drive.specs.Acceptance.{acceptance};
-ghost use Rattle.table_drive.specs.Key.{key};
 ghost use Rattle.table_drive.specs.Laws.{FindsItsCellsAndNothingElse};
 ghost use Rattle.table_drive.specs.Table.{table_meaning, table_made, held_step, cells_after, TableTicks, TableResets, list_after, Keeps, SameList, Placed};
 
 use crate::acceptance::judge;
-use crate::key::Key;
 use crate::refusal::ListRefusal;
-use crate::search::place_of;
 use crate::state::TableDrive;
-use drive::{Cell, ChangeError, Command, Drive, Link, Speed, Width};
+use drive::{Cell, Change, ChangeError, Command, Drive, Fault, Key, Link, Speed};
 
 // A step is held within these.
 const LEAST_STEP: u16 = 1;
@@ -58,15 +55,14 @@ impl TableDrive<'_> {
         verdict
     }
 
-    // The place in the list of the cell in use with this group and number, or none.
-    fn place(&self, group: u8, number: u8) -> Option<usize>
-        ensures { Placed self.now.accepted self.now.cells.now (key group number) result }
+    // The place in the list of the cell in use with this key, or none.
+    fn place(&self, key: Key) -> Option<usize>
+        ensures { Placed self.now.accepted self.now.cells.now key result }
     {
-        if self.accepted {
-            place_of(self.cells, Key { group, number })
-        } else {
-            None
+        if !self.accepted {
+            return None;
         }
+        self.cells.binary_search_by_key(&key, |cell| cell.key).ok()
     }
 }
 
@@ -79,28 +75,24 @@ impl Drive for TableDrive<'_> {
 
     ghost keeps = { Keeps };
 
-    fn cell(&self, group: u8, number: u8) -> Option<Cell> {
-        let i = self.place(group, number)?;
+    fn cell(&self, key: Key) -> Option<Cell> {
+        let i = self.place(key)?;
         Some(self.cells[i])
     }
 
     // One record of the list is written whole, the others stay.
-    fn change(&mut self, group: u8, number: u8, width: Width, value: i32) -> Result<(), ChangeError>
-        ensures answer { result ≡ change_answer (table_meaning self.old) group number width value }
-        ensures after { table_meaning self.new ≡ changed result (table_meaning self.old) group number value }
+    fn change(&mut self, change: Change) -> Result<(), ChangeError>
+        ensures answer { result ≡ change_answer (table_meaning self.old) change }
+        ensures after { table_meaning self.new ≡ changed result (table_meaning self.old) change }
         ensures refused_leaves { RefusedLeaves result (table_meaning self.old) (table_meaning self.new) }
         ensures keeps { Keeps self.old self.new }
-        ensures list { self.new.cells.now ≡ list_after result self.old.cells.now (key group number) value }
+        ensures list { self.new.cells.now ≡ list_after result self.old.cells.now change.key change.value }
     {
-        let Some(i) = self.place(group, number) else {
-            return Err(ChangeError::NoCell);
-        };
+        let i = self.place(change.key).ok_or(ChangeError::NoCell)?;
         let cell = self.cells[i];
-        let answer = cell.check_change(self.command, width, value);
-        if let Ok(()) = answer {
-            self.cells[i] = cell.with_value(value);
-        }
-        answer
+        cell.check_change(self.command, change.width, change.value)?;
+        self.cells[i] = cell.with_value(change.value);
+        Ok(())
     }
 
     fn set_command(&mut self, command: Command)
@@ -126,8 +118,8 @@ impl Drive for TableDrive<'_> {
         self.speed
     }
 
-    fn fault(&self) -> u16 {
-        0
+    fn fault(&self) -> Option<Fault> {
+        None
     }
 
     fn link(&self) -> Link {

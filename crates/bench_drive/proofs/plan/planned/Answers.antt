@@ -1,20 +1,9 @@
-use Rattle.std.proofs.Common.{sym, refl, ◌∙◌, arith}
-use Rattle.std.proofs.lemmas.List.{at_drop_all}
-use Rattle.bench_drive.specs.Plan.{planned}
-use Rattle.bench_drive.proofs.Entries.{planned_here, planned_later}
+use Rattle.std.proofs.Common.{◌∙◌, nat_eq, rules, tests}
+use Rattle.std.proofs.lemmas.Iterator.{YieldsList-from_slice}
+use Rattle.std.proofs.lemmas.Iterator.Search.{find_from_yields_List}
 use Rattle.bench_drive.proofs.plan.planned.Goals as goal
 
-pub returns-then-from-tick : goal.returns-then-from-tick
-returns-then-from-tick c = record {
-  value = sym (planned_here c.args.plan.now c.loop-entry.entry-index c.args.tick (omega arith) (omega arith)) ∙ c.loop-entry.invariant;
-  over = λ past. absurd (omega arith);
-}
-
-pub loop-entry-preserved : goal.loop-entry-preserved
-loop-entry-preserved c = sym (planned_later c.args.plan.now c.loop-entry.entry-index c.args.tick (omega arith) (omega arith)) ∙ c.loop-entry.invariant
-
-pub returns : goal.returns
-returns c = record {
-  value = sym (at_drop_all (λ l. planned l c.args.tick) c.args.plan.now c.loop-entry.entry-index (omega arith)) ∙ c.loop-entry.invariant;
-  over = λ _. refl;
-}
+pub returns-clause-value : goal.returns-clause-value
+returns-clause-value c =
+    c.copied.ensures
+    ∙ find_from_yields_List (λ e. nat_eq e.tick c.args.tick) _ _ _ c.find.ensures.ran (YieldsList-from_slice c.args.plan.now cc) (λ x b q k. search (rules, tests))

@@ -1,10 +1,11 @@
-use Rattle.std.proofs.Common.{◌∙◌, arith, w16}
-use Rattle.std.proofs.lemmas.Int.{to_z-of_z}
-use Rattle.control.proofs.Ratios.{scales_to_speed, computed_is}
+use Rattle.std.proofs.Common.{ℤ, ◌≤ℤ◌, arith, rules}
+use Rattle.std.proofs.lemmas.Int.{ints, clamps}
+use Rattle.control.specs.Scale.{scaled_speed}
 use Rattle.control.proofs.scale.scaled_speed.Goals as goal
 
-pub returns : goal.returns
-returns c =
-    let same = c.from.ensures ∙ to_z-of_z w16 c.args.word c.ranges.word in
-    let is = computed_is 625 512 c.args.word (omega arith) c.ranges.word in
-    record { value = simp is at (simp same at c.held.ensures); scales = scales_to_speed }
+-- order is kept
+ordered : (a b : ℤ) → a ≤ℤ b → scaled_speed a ≤ℤ scaled_speed b
+ordered a b below = grind (arith, ints, clamps)
+
+pub returns-clause-scales : goal.returns-clause-scales
+returns-clause-scales c = search (rules, ordered)

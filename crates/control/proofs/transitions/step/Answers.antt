@@ -1,13 +1,16 @@
-use Rattle.std.proofs.Common.{refl}
-use Rattle.control.proofs.Stepping.{stands_still, operating_only_by_run_word, released_only_by_release_word, fault_stays}
+use Rattle.std.proofs.Common.{◌≡◌, ℕ, zero, suc, refl, ◌∙◌, rules}
+use Rattle.control.specs.Step.{one_step, steps, stepped}
+use Rattle.control.specs.declared.drive_state.DriveState.{DriveState}
 use Rattle.control.proofs.transitions.step.Goals as goal
 
-pub returns : goal.returns
-returns c = rw c.steps.ensures (record {
-  state = refl;
-  reset = c.asks_reset.ensures;
-  stands_still = stands_still c.args.word.0 c.args.state;
-  operating_only_by_run_word = operating_only_by_run_word c.args.word.0 c.args.state;
-  released_only_by_release_word = released_only_by_release_word c.args.word.0 c.args.state;
-  fault_stays = fault_stays c.args.word.0 c.args.state;
-})
+-- after two steps a third changes nothing
+stepped_still : (w : ℕ) (s : DriveState) → one_step w (stepped w s) ≡ stepped w s
+stepped_still w s = search rules
+
+-- steps made before change nothing at the end
+stepped_steps : (w n : ℕ) (s : DriveState) → stepped w (steps n w s) ≡ stepped w s
+stepped_steps w zero s = refl
+stepped_steps w (suc n) s = stepped_still w (steps n w s) ∙ stepped_steps w n s
+
+pub returns-clause-stands_still : goal.returns-clause-stands_still
+returns-clause-stands_still c = search (rules, stepped_still, stepped_steps)

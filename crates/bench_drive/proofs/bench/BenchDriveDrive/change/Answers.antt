@@ -1,24 +1,18 @@
-use Rattle.std.proofs.Common.{◌≡◌, length, ap, arith, w32, to_z, of_z, rules}
+use Rattle.std.proofs.Common.{◌≡◌, Some, ap, arith, w32, to_z, of_z, rules}
 use Rattle.std.proofs.lemmas.Int.{ints, to_z-of_z}
 use Rattle.drive.specs.Meaning.{with_cells}
 use Rattle.bench_drive.specs.Bench.{bench_meaning}
+use Rattle.bench_drive.specs.Cells.{place}
 use Rattle.bench_drive.proofs.Values.{cells_set, within_set}
 use Rattle.bench_drive.proofs.bench.BenchDriveDrive.change.Goals as goal
 
-pub invariant_of-self : goal.invariant_of-self
-invariant_of-self c = record {
-  within = within_set c.args.self.now.values c.in-Some.place _ (grind (arith, ints, c.in-Ok.ensures.taken_fits)) c.args.self.now.within;
-  counted = c.args.self.now.counted;
-}
+pub invariant_of-self-clause-within : goal.invariant_of-self-clause-within
+invariant_of-self-clause-within c = within_set c.args.self.now.values c.in_ok-place.place _ (grind (arith, ints, c.in_ok-check_change.ensures.taken_fits)) c.args.self.now.within
 
-pub returns-in-Ok : goal.returns-in-Ok
-returns-in-Ok c =
-    let len : length c.args.self.now.values ≡ 8 = search rules in
-    let same : to_z w32 (of_z w32 c.args.value) ≡ c.args.value = to_z-of_z w32 c.args.value c.ranges.value in
-    let put = cells_set c.args.self.now.values c.args.group c.args.number c.in-Some.place c.args.value len c.in-Some.ensures in
-    record {
-      answer = search rules;
-      after = simp (c.in-Ok.is, same) (ap (with_cells (bench_meaning c.args.self.now)) put);
-      refused_leaves = simp c.in-Ok.is tt;
-      keeps = search rules;
-    }
+pub returns-clause-after : goal.returns-clause-after
+returns-clause-after c =
+    let b = c.args.self.now in
+    let ch = c.args.change in
+    let same : to_z w32 (of_z w32 ch.value) ≡ ch.value = to_z-of_z w32 ch.value (search rules) in
+    let found : Some c.in_ok-place.place ≡ place ch.key.group ch.key.number = grind (arith, c.in_ok-place.ensures.value) in
+    simp same (ap (with_cells (bench_meaning b)) (cells_set b.values ch.key.group ch.key.number c.in_ok-place.place ch.value (search rules) found))

@@ -8,7 +8,7 @@ pub returns-in_err-i : goal.returns-in_err-i
 returns-in_err-i c =
     let t = c.args.self.now in
     record {
-      value = c.from_residual.ensures ∙ sym (placed_none t.accepted t.cells.now c.args.group c.args.number c.in_err-i.ensures);
+      value = c.from_residual.ensures ∙ sym (placed_none t.accepted t.cells.now c.args.key c.in_err-i.ensures);
       lawful = cells_lawful (table_meaning t) (sound_in_use t.accepted t.cells.now t.sound);
     }
 
@@ -16,6 +16,6 @@ pub returns : goal.returns
 returns c =
     let t = c.args.self.now in
     record {
-      value = sym ((placed_some t.accepted t.cells.now c.args.group c.args.number c.in_ok-i.i t.rising c.in_ok-i.ensures).used _);
+      value = sym ((placed_some t.accepted t.cells.now c.args.key c.in_ok-i.i t.rising c.in_ok-i.ensures).used _);
       lawful = cells_lawful (table_meaning t) (sound_in_use t.accepted t.cells.now t.sound);
     }

@@ -1,65 +1,56 @@
-use Rattle.std.proofs.Common.{◌≡◌, set, sym, refl, ap, ◌∙◌, w32, to_z, of_z}
+use Rattle.std.proofs.Common.{set, sym, refl, ap, ◌∙◌, subst, w32, rules}
 use Rattle.std.proofs.lemmas.Int.{to_z-of_z}
-use Rattle.drive.proofs.Change.{answered, accepted, accepted_leaves, not_found, refused_same, refused_leaves}
+use Rattle.std.proofs.lemmas.Result.{err_from_is_err_and}
+use Rattle.drive.proofs.Changing.{answered, accepted, not_found_by}
 use Rattle.table_drive.specs.Acceptance.{cells_rise, all_sound}
-use Rattle.table_drive.specs.Key.{key}
-use Rattle.table_drive.specs.Table.{table_meaning, put_value, list_after}
-use Rattle.table_drive.proofs.InUse.{placed_none, placed_some}
+use Rattle.table_drive.specs.Table.{table_meaning, put_value, Placed}
+use Rattle.table_drive.proofs.InUse.{placed_none, placed_ok}
 use Rattle.table_drive.proofs.Writing.{rises_set, sound_set, list_written, cells_written}
 use Rattle.table_drive.proofs.table.TableDriveDrive.change.Goals as goal
 
-pub returns-in_default : goal.returns-in_default
-returns-in_default c =
+pub returns-in_err-i-clause-answer : goal.returns-in_err-i-clause-answer
+returns-in_err-i-clause-answer c =
     let t = c.args.self.now in
-    record {
-      answer = not_found (table_meaning t) c.args.group c.args.number c.args.width c.args.value (placed_none t.accepted t.cells.now c.args.group c.args.number c.in_default.ensures);
-      after = refl;
-      refused_leaves = refl;
-      keeps = record { lent = refl; step = refl };
-      list = refl;
-    }
+    let k = c.args.change.key in
+    let p = err_from_is_err_and c.from_residual.result c.from_residual.ensures.1 in
+    rw (p.1, p.2) (not_found_by (table_meaning t) c.args.change c.place.result _ c.in_err-i.ensures.value (λ none. placed_none t.accepted t.cells.now k (subst (Placed t.accepted t.cells.now k) none c.place.ensures)))
 
-pub returns-in_default-answer : goal.returns-in_default-answer
-returns-in_default-answer c =
+pub returns-in_err-check_change-clause-answer : goal.returns-in_err-check_change-clause-answer
+returns-in_err-check_change-clause-answer c =
     let t = c.args.self.now in
-    let m = table_meaning t in
-    let v = c.args.value in
-    let r = c.check_change-answer.result in
-    let at = placed_some t.accepted t.cells.now c.args.group c.args.number c.in-Some.i t.rising c.in-Some.ensures in
-    record {
-      answer = answered m c.args.group c.args.number c.args.width v _ (to_z-of_z w32 v c.ranges.value) r _ (sym (at.used _)) c.check_change-answer.ensures.value;
-      after = refused_same m c.args.group c.args.number v r c.in_default-answer.field-0 c.in_default-answer.is;
-      refused_leaves = refused_leaves m c.args.group c.args.number v r c.in_default-answer.field-0 c.in_default-answer.is;
-      keeps = record { lent = refl; step = refl };
-      list = ap (λ q. list_after q t.cells.now (key c.args.group c.args.number) v) (sym c.in_default-answer.is);
-    }
+    let p = err_from_is_err_and c.from_residual-in_err-check_change.result c.from_residual-in_err-check_change.ensures.1 in
+    let at = placed_ok t.accepted t.cells.now c.args.change.key c.place.result c.in_ok-i.i t.rising c.place.ensures c.in_ok-i.ensures.value in
+    rw (p.1, p.2) (answered (table_meaning t) c.args.change _ (to_z-of_z w32 c.args.change.value (search rules)) _ _ (sym (at.used _)) c.in_err-check_change.ensures.value)
 
 pub invariant_of-self : goal.invariant_of-self
 invariant_of-self c =
     let t = c.args.self.now in
     let list = t.cells.now in
-    let at = placed_some t.accepted list c.args.group c.args.number c.in-Some.i t.rising c.in-Some.ensures in
-    let fits = c.in-Ok.ensures.taken_fits in
+    let i = c.in_ok-i.i in
+    let at = placed_ok t.accepted list c.args.change.key c.place.result i t.rising c.place.ensures c.in_ok-i.ensures.value in
+    let fits = c.in_ok-check_change.ensures.taken_fits in
     record {
-      rising = λ used. ap (λ n. cells_rise (set list c.in-Some.i n)) c.with_value.ensures ∙ rises_set list c.in-Some.i _ _ (t.rising used);
-      sound = λ used. ap (λ n. all_sound (set list c.in-Some.i n)) c.with_value.ensures ∙ sound_set list c.in-Some.i _ _ (t.sound used) at.within fits.0 fits.1;
+      rising = λ used. ap (λ n. cells_rise (set list i n)) c.with_value.ensures ∙ rises_set list i _ _ (t.rising used);
+      sound = λ used. ap (λ n. all_sound (set list i n)) c.with_value.ensures ∙ sound_set list i _ _ (t.sound used) at.within fits.0 fits.1;
     }
 
-pub returns-in-Ok : goal.returns-in-Ok
-returns-in-Ok c =
+pub returns-clause-answer : goal.returns-clause-answer
+returns-clause-answer c =
     let t = c.args.self.now in
-    let list = t.cells.now in
-    let m = table_meaning t in
-    let v = c.args.value in
-    let x = to_z w32 (of_z w32 v) in
-    let same : x ≡ v = to_z-of_z w32 v c.ranges.value in
-    let r = c.check_change-answer.result in
-    let at = placed_some t.accepted list c.args.group c.args.number c.in-Some.i t.rising c.in-Some.ensures in
-    let rise = t.rising at.accepted in
-    record {
-      answer = answered m c.args.group c.args.number c.args.width v x same r _ (sym (at.used _)) c.check_change-answer.ensures.value;
-      after = accepted m c.args.group c.args.number c.args.width v x same r tt _ c.in-Ok.is (cells_written list c.args.group c.args.number c.in-Some.i _ _ x c.with_value.ensures rise at.within (at.named _) t.accepted at.accepted);
-      refused_leaves = accepted_leaves m c.args.group c.args.number c.args.width v x same r tt _ c.in-Ok.is;
-      keeps = record { lent = refl; step = refl };
-      list = list_written list c.args.group c.args.number c.in-Some.i _ _ x c.with_value.ensures rise at.within (at.named _) ∙ ap (put_value list (key c.args.group c.args.number)) same ∙ ap (λ q. list_after q list (key c.args.group c.args.number) v) (sym c.in-Ok.is);
-    }
+    let at = placed_ok t.accepted t.cells.now c.args.change.key c.place.result c.in_ok-i.i t.rising c.place.ensures c.in_ok-i.ensures.value in
+    answered (table_meaning t) c.args.change _ (to_z-of_z w32 c.args.change.value (search rules)) _ _ (sym (at.used _)) c.in_ok-check_change.ensures.value
+
+pub returns-clause-after : goal.returns-clause-after
+returns-clause-after c =
+    let t = c.args.self.now in
+    let k = c.args.change.key in
+    let at = placed_ok t.accepted t.cells.now k c.place.result c.in_ok-i.i t.rising c.place.ensures c.in_ok-i.ensures.value in
+    accepted (table_meaning t) c.args.change _ (to_z-of_z w32 c.args.change.value (search rules)) _ tt _ refl (cells_written t.cells.now k c.in_ok-i.i _ _ _ c.with_value.ensures (t.rising at.accepted) at.within (at.named _) t.accepted at.accepted)
+
+pub returns-clause-list : goal.returns-clause-list
+returns-clause-list c =
+    let t = c.args.self.now in
+    let k = c.args.change.key in
+    let at = placed_ok t.accepted t.cells.now k c.place.result c.in_ok-i.i t.rising c.place.ensures c.in_ok-i.ensures.value in
+    list_written t.cells.now k c.in_ok-i.i _ _ _ c.with_value.ensures (t.rising at.accepted) at.within (at.named _)
+    ∙ ap (put_value t.cells.now k) (to_z-of_z w32 c.args.change.value (search rules))

@@ -1,4 +1,0 @@
-pub mod Tables
-pub mod Stepping
-pub mod Ratios
-pub mod StatusBits
