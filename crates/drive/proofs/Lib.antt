@@ -1,3 +1,4 @@
 pub mod Changing
 pub mod Lawful
 pub mod Ticks
+pub mod Toward

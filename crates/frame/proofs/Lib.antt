@@ -4,4 +4,5 @@ pub mod Trip
 pub mod Exact
 pub mod Damage
 pub mod Digits
+pub mod Coding
 pub mod DigitsBack

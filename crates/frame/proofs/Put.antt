@@ -62,6 +62,13 @@ module _ (out xs : List ℕ) (da sa fc : ℕ) where
       ∙ ap (λ t. (first ++ (xs ++ t ∷ 0x16 ∷ [])) ++ drop (n + 9) out) sum_is
       ∙ ap (λ l. l ++ drop (n + 9) out) (sym (long_telegram da sa fc xs h))
 
+-- where nothing is refused
+pub writing_ok : (f : Fields) (room : ℕ) → 255 ≤ room → length f.«data» ≤ 246 → writing f room ≡ Ok (length (fields_bytes f))
+writing_ok f room h k = grind (arith, nat_tests)
+
+pub written_ok : (f : Fields) (buffer : List ℕ) → 255 ≤ length buffer → length f.«data» ≤ 246 → written f buffer ≡ fields_bytes f ++ drop (length (fields_bytes f)) buffer
+written_ok f buffer h k = grind (arith, nat_tests)
+
 -- a telegram with at most 246 data bytes has at most 255
 length_most : (da sa fc : ℕ) (xs : List ℕ) → length xs ≤ 246 → length (telegram da sa fc xs) ≤ 255
 length_most da sa fc [] few = omega arith

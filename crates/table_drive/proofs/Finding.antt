@@ -5,10 +5,18 @@ use Rattle.std.specs.Ordering.{is_eq}
 use Rattle.table_drive.specs.Order.{found}
 use Rattle.table_drive.proofs.Ascending.{Ascending}
 
+pub eq_equal : (o : Ordering) → is_eq o ≡ true → o ≡ Equal
+eq_equal Less e = cc
+eq_equal Equal e = refl
+eq_equal Greater e = cc
+
 not_equal : (o : Ordering) → (o ≡ Equal → ⊥) → is_eq o ≡ false
 not_equal Less h = refl
 not_equal Equal h = absurd (h refl)
 not_equal Greater h = refl
+
+less_equal : (o : Ordering) → o ≡ Less → o ≡ Equal → ⊥
+less_equal o a b = cc
 
 module _ {R K : Type 0} (order : K → K → Ordering) (key : R → K) where
   -- whatever is found lies in the list

@@ -26,6 +26,11 @@ use Rattle.table_drive.proofs.Searching.{located}
 pub accepted_rises : (list : List Cell) (u : Unit {0}) → Ok u ≡ acceptance list → cells_rise list ≡ true
 accepted_rises list u e = grind (arith, nat_tests)
 
+-- in use by the answer
+pub in_use_after : (r : Result Unit ListRefusal) (list : List Cell) (b : Bool) → b ≡ is_ok r → cells_in_use b list ≡ cells_after r list
+in_use_after (Ok u) list b e = rw e
+in_use_after (Err x) list b e = rw e
+
 -- what is found has the key that it was looked for by
 found_key : (list : List Cell) (g n : ℕ) (c : Cell) → cells_of list g n ≡ Some c → key_of c ≡ key g n
 found_key [] g n c f = cc

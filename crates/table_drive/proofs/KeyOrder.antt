@@ -1,11 +1,13 @@
 -- The keys of cells are in a total order, and it is the one that is derived. Assumes nothing.
-use Rattle.std.proofs.Common.{◌≡◌, Ordering, Less, Equal, arith}
+use Rattle.std.proofs.Common.{◌≡◌, ℕ, ◌<◌, List, length, get_or, Ordering, Less, Equal, sym, ap, ◌∙◌, arith}
 use mathlib.Core.Path.{fun_ext}
+use Rattle.std.proofs.lemmas.List.{get_or_default}
 use Rattle.std.proofs.lemmas.Bool.Decides.{nat_tests}
 use Rattle.std.specs.Cmp.{IsTotalOrder}
 use Rattle.std.specs.Ordering.{ordering_reverse, ordering_then, nat_cmp}
+use Rattle.drive.specs.declared.cell.Cell.{Cell}
 use Rattle.drive.specs.declared.key.Key.{Key}
-use Rattle.table_drive.specs.Key.{by_key}
+use Rattle.table_drive.specs.Key.{by_key, key_of}
 
 pub trans : (x y z : Key) → by_key x y ≡ Less → by_key y z ≡ Less → by_key x z ≡ Less
 trans x y z a b = grind (arith, nat_tests)
@@ -34,3 +36,8 @@ derived_at x y = grind (arith, nat_tests)
 
 pub derived_is : derived ≡ by_key
 derived_is = fun_ext (λ x. fun_ext (λ y. derived_at x y))
+
+-- what a comparison at a place told, at any default
+pub told_at : (cs : List Cell) (k : Key) (m : ℕ) (e : Cell) (y : Key) (r : Ordering) → m < length cs → y ≡ key_of (get_or cs m e) → r ≡ by_key y k → (d : Cell) → by_key (key_of (get_or cs m d)) k ≡ r
+told_at cs k m e y r h at told d =
+    ap (λ z. by_key (key_of z) k) (get_or_default cs m d e h) ∙ ap (λ z. by_key z k) (sym at) ∙ sym told

@@ -1,6 +1,6 @@
 use Rattle.std.proofs.Common.{◌≡◌, ◌/◌, length, ap, ◌∙◌, arith}
 use Rattle.frame.specs.Hex.{bytes_of}
-use Rattle.frame.proofs.Digits.{over, over_all, length_bytes, pair_of_digits, bytes_more}
+use Rattle.frame.proofs.Digits.{over, over_all, length_bytes, pair_of_digits, pairs_more}
 use Rattle.frame.proofs.hex.put_bytes.Goals as goal
 
 pub value-requires : goal.value-requires
@@ -11,7 +11,7 @@ value-requires-in-loop-i c = (pair_of_digits c.args.text.now c.args.bytes.now _ 
 
 pub loop-i-preserved : goal.loop-i-preserved
 loop-i-preserved c =
-    bytes_more c.args.text.now c.args.bytes.now _ c.as_chunks.ensures.front c.loop-i.i (omega arith) _ _ _ c.requires.1 c.loop-i.invariant c.value.ensures.is c.value-in-loop-i.ensures.is
+    pairs_more c.args.text.now c.args.bytes.now _ c.as_chunks.ensures.front c.loop-i.i (omega arith) _ _ _ c.requires.1 c.loop-i.invariant c.value.ensures.is c.value-in-loop-i.ensures.is
 
 pub returns : goal.returns
 returns c =
